@@ -1,0 +1,8 @@
+-- What later floors cite about the definitions, and where a case stands in the table.
+pub mod Corners
+pub mod Way
+pub mod Turned
+pub mod Cases
+pub mod Classes
+pub mod Places
+pub mod Outcome

@@ -1,0 +1,96 @@
+-- The face rule, for a way round any face: edges may be renamed before or after, and both ends of a segment are crossed edges of the face.
+use mathlib.Core.Path.{_≡_, refl, ap, ap₂, sym, _∙_}
+use mathlib.Core.List.{List, [], _∷_, _++_, map, map-append, List·Memᴰ}
+use mathlib.Core.Bool.{Bool, true, false, cond, not, _&&_, xor, false≢true}
+use Prim.Native.Nat.{ℕ}
+use Rattle.laws.specs.Sum.{All}
+use Rattle.laws.specs.Mesh.{Arrow, arrow}
+use Rattle.laws.proofs.Sums.{all-append, all-weaken, all-mapped}
+use Rattle.cube.specs.Face.{Step, entersRun, leavesRun, leftBy, cutRuns, cuts}
+
+-- a step by the renamed edge, and an arrow between the renamed edges
+abbrev pub byNamed : (ℕ → ℕ) → Step → Step
+byNamed r s = record { leaving = s .leaving; by = r (s .by); coming = s .coming }
+
+abbrev pub arrowNamed : (ℕ → ℕ) → Arrow → Arrow
+arrowNamed r a = arrow (r (a .from)) (r (a .to))
+
+choose : {A B : Type 0} (f : A → B) (b : Bool) (x y : A) → cond b (f x) (f y) ≡ f (cond b x y)
+choose f true x y = refl
+choose f false x y = refl
+
+module _ (r : ℕ → ℕ) where
+  left-renamed : (e : ℕ) (ss : List Step) → leftBy (r e) (map (byNamed r) ss) ≡ r (leftBy e ss)
+  unfolding leftBy
+  left-renamed e [] = refl
+  left-renamed e (s ∷ ss) = rw (left-renamed e ss) (choose r (leavesRun s) (s .by) (leftBy e ss))
+
+  runs-renamed : (round ss : List Step) → cutRuns (map (byNamed r) round) (map (byNamed r) ss) ≡ map (arrowNamed r) (cutRuns round ss)
+  unfolding cutRuns
+  runs-renamed round [] = refl
+  runs-renamed round (s ∷ ss) =
+      let left : leftBy (r (s .by)) (map (byNamed r) ss ++ map (byNamed r) round) ≡ r (leftBy (s .by) (ss ++ round))
+      = rw (← (map-append (byNamed r) ss round)) (left-renamed (s .by) (ss ++ round)) in
+      rw (left, runs-renamed round ss)
+      (choose (map (arrowNamed r)) (entersRun s) (arrow (s .by) (leftBy (s .by) (ss ++ round)) ∷ cutRuns round ss) (cutRuns round ss))
+
+  pub cuts-renamed : (round : List Step) → cuts (map (byNamed r) round) ≡ map (arrowNamed r) (cuts round)
+  unfolding cuts
+  cuts-renamed round = runs-renamed round round
+
+-- a step whose two corners differ goes by a crossed edge
+abbrev pub crossedStep : Step → Bool
+crossedStep s = xor (s .leaving) (s .coming)
+
+-- both ends of an arrow have the property
+abbrev pub Ends : (ℕ → Type 0) → Arrow → Type 0
+Ends P a = P (a .from) × P (a .to)
+
+-- what holds of each crossed edge of the face holds of both ends of each of its segments
+module _ (P : ℕ → Type 0) where
+  abbrev pub CrossedHave : Step → Type 0
+  CrossedHave s = crossedStep s ≡ true → P (s .by)
+
+  -- a step that enters or leaves a run goes by a crossed edge
+  entering : (a b : Bool) → (not a && b) ≡ true → xor a b ≡ true
+  unfolding xor
+  entering true b h = absurd (false≢true h)
+  entering false true h = refl
+  entering false false h = absurd (false≢true h)
+
+  leaving : (a b : Bool) → (a && not b) ≡ true → xor a b ≡ true
+  unfolding xor
+  leaving true true h = absurd (false≢true h)
+  leaving true false h = refl
+  leaving false b h = absurd (false≢true h)
+
+  left-has : (e : ℕ) (ss : List Step) → P e → All CrossedHave ss → P (leftBy e ss)
+  unfolding leftBy
+  left-has e [] p a = p
+  left-has e (s ∷ ss) p a = go (leavesRun s) refl (left-has e ss p (a .1))
+    where
+      go : (b : Bool) → leavesRun s ≡ b → P (leftBy e ss) → P (cond b (s .by) (leftBy e ss))
+      go true h later = a .0 (leaving (s .leaving) (s .coming) h)
+      go false h later = later
+
+  runs-crossed : (round ss : List Step) → All CrossedHave round → All CrossedHave ss → All (Ends P) (cutRuns round ss)
+  unfolding cutRuns
+  runs-crossed round [] r a = tt
+  runs-crossed round (s ∷ ss) r a = go (entersRun s) refl (runs-crossed round ss r (a .1))
+    where
+      go : (b : Bool) → entersRun s ≡ b → All (Ends P) (cutRuns round ss)
+          → All (Ends P) (cond b (arrow (s .by) (leftBy (s .by) (ss ++ round)) ∷ cutRuns round ss) (cutRuns round ss))
+      go true h later =
+          let by : P (s .by) = a .0 (entering (s .leaving) (s .coming) h) in
+          ((by, left-has (s .by) (ss ++ round) by (all-append CrossedHave ss round (a .1) r)), later)
+      go false h later = later
+
+  pub ends-crossed : (round : List Step) → All CrossedHave round → All (Ends P) (cuts round)
+  unfolding cuts
+  ends-crossed round a = runs-crossed round round a a
+
+-- both ends of a segment lie in the face that it cuts
+pub ends-in-face : (round : List Step) → All (Ends (λ e. List·Memᴰ e (map (λ s. s .by) round))) (cuts round)
+ends-in-face round =
+    ends-crossed (λ e. List·Memᴰ e (map (λ s. s .by) round)) round
+    (all-weaken _ _ (λ s m crossed. m) round (all-mapped (λ s. s .by) round))

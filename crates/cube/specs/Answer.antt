@@ -1,0 +1,47 @@
+-- The answer for a case (document 01, "One cube", last paragraph).
+use mathlib.Core.List.{List, [], _∷_, flatMap, flatten}
+use Prim.Native.Nat.{ℕ}
+use lib.ListN.{length, getD}
+use Rattle.laws.specs.Range.{joinTo}
+use Rattle.laws.specs.Mesh.{Arrow, Triangle, triangle}
+use Rattle.cube.specs.Cube.{isAbove, edgeBetween, cubeEdges}
+use Rattle.cube.specs.Face.{segmentsOf}
+use Rattle.cube.specs.Loop.{loops, fan}
+
+-- the six faces as rings of corners, counterclockwise as seen from outside: x = 0, x = 1, y = 0, y = 1, z = 0, z = 1
+abbrev pub cubeFaces : List (List ℕ)
+cubeFaces =
+    (0 ∷ 4 ∷ 6 ∷ 2 ∷ [])
+    ∷ (1 ∷ 3 ∷ 7 ∷ 5 ∷ [])
+    ∷ (0 ∷ 1 ∷ 5 ∷ 4 ∷ [])
+    ∷ (2 ∷ 6 ∷ 7 ∷ 3 ∷ [])
+    ∷ (0 ∷ 2 ∷ 3 ∷ 1 ∷ [])
+    ∷ (4 ∷ 5 ∷ 7 ∷ 6 ∷ [])
+    ∷ []
+
+unfoldable pub segments : ℕ → List Arrow
+segments k = segmentsOf (isAbove k) edgeBetween cubeFaces
+
+unfoldable pub triangles : ℕ → List Triangle
+triangles k = flatMap fan (loops cubeEdges (segments k))
+
+unfoldable pub count : ℕ → ℕ
+count k = length (triangles k)
+
+-- the three edge numbers of the case's triangle n; zeros where it has none
+unfoldable pub triangleAt : ℕ → ℕ → List ℕ
+triangleAt k n = let t = getD (triangles k) n (triangle 0 0 0) in t .one ∷ t .two ∷ t .three ∷ []
+
+-- five triangles of three edge numbers each, unused ones zero
+unfoldable pub answer : ℕ → List (List ℕ)
+answer k = triangleAt k 0 ∷ triangleAt k 1 ∷ triangleAt k 2 ∷ triangleAt k 3 ∷ triangleAt k 4 ∷ []
+
+-- the table: fifteen edge numbers for each of the 256 cases
+unfoldable pub row : ℕ → List ℕ
+row k = flatten (answer k)
+
+unfoldable pub table : List ℕ
+table = joinTo 256 row
+
+unfoldable pub countTable : List ℕ
+countTable = joinTo 256 (λ k. count k ∷ [])

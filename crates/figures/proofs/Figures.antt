@@ -1,0 +1,14 @@
+-- Every row of the table holds.
+use mathlib.Core.Path.{refl}
+use mathlib.Core.List.{flatMap}
+use Rattle.laws.specs.Sum.{All}
+use Rattle.laws.specs.Bits.{bit}
+use Rattle.cube.specs.Cube.{isAbove}
+use Rattle.cube.specs.Face.{cuts, wayRound, faceSegments, segmentsOf}
+use Rattle.cube.specs.Loop.{loops, fan}
+use Rattle.cube.specs.Answer.{segments, triangles}
+use Rattle.figures.specs.Figure.{Holds, figures}
+
+pub figures-hold : All Holds figures
+unfolding triangles flatMap fan loops segments segmentsOf faceSegments cuts wayRound isAbove bit
+figures-hold = (refl, (refl, (refl, (refl, (refl, (refl, (refl, tt)))))))

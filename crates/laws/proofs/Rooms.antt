@@ -1,0 +1,30 @@
+-- A list laid over the front of a room, element by element.
+use mathlib.Core.Path.{_≡_, refl, ap, sym, _∙_}
+use mathlib.Core.List.{List, [], _∷_, _++_, append-assoc}
+use Prim.Native.Nat.{ℕ, suc, _+_, _<_, _≤_}
+use native.Mathlib.Numerals.{add-one}
+use native.Mathlib.Omega.{arith}
+use lib.ListN.{length, getD, drop, set, length-append, length-drop, List·getD-append}
+use lib.Seq.{drop-cons, set-append-seam, getD-append-add, getD-drop}
+use Rattle.laws.specs.Room.{laid}
+
+module _ {A : Type 0} (xs room : List A) where
+  pub length-laid : length xs ≤ length room → length (laid xs room) ≡ length room
+  unfolding laid
+  length-laid h = simp (length-append, length-drop) (omega arith)
+
+  -- what was written
+  pub laid-front : (i : ℕ) (d : A) → i < length xs → getD (laid xs room) i d ≡ getD xs i d
+  unfolding laid
+  laid-front i d h = List·getD-append xs (drop (length xs) room) d i h
+
+  -- what stayed
+  pub laid-rest : (i : ℕ) (d : A) → getD (laid xs room) (length xs + i) d ≡ getD room (length xs + i) d
+  unfolding laid
+  laid-rest i d = getD-append-add xs (drop (length xs) room) i d ∙ getD-drop (length xs) room i d
+
+  -- one element more
+  pub laid-next : (v : A) → length xs < length room → set (laid xs room) (length xs) v ≡ laid (xs ++ (v ∷ [])) room
+  unfolding laid
+  laid-next v h =
+      rw (drop-cons room (length xs) v h, set-append-seam xs (getD room (length xs) v) (drop (suc (length xs)) room) v, length-append, add-one, append-assoc)

@@ -1,0 +1,43 @@
+-- What arrows and the sides of triangles weigh together: joined, turned round, renamed, rearranged. Each law holds for every weight.
+use mathlib.Core.Path.{_≡_, refl, ap, ap₂}
+use mathlib.Core.List.{List, [], _∷_, _++_, map}
+use mathlib.Core.Bool.{Bool, true, _&&_}
+use Prim.Native.Nat.{ℕ, _+_}
+use native.Mathlib.Omega.{arith}
+use lib.Dec.{eqb}
+use borrow.Author.Tests.{eqb-true}
+use Rattle.laws.specs.Sum.{sumOf}
+use Rattle.laws.specs.Order.{rearranged}
+use Rattle.laws.specs.Mesh.{Arrow, arrow, sameArrow, flip, Triangle, rename, sides, total}
+use Rattle.laws.proofs.Tests.{both}
+use Rattle.laws.proofs.Sums.{sum-append, sum-map}
+use Rattle.laws.proofs.Rearranged.{sum-rearranged}
+
+pub sides-append : (xs ys : List Triangle) → sides (xs ++ ys) ≡ sides xs ++ sides ys
+unfolding sides
+sides-append [] ys = refl
+sides-append (x ∷ xs) ys = rw (sides-append xs ys)
+
+pub same-arrow : (a b : Arrow) → sameArrow a b ≡ true → a ≡ b
+unfolding sameArrow
+same-arrow a b h =
+    let s = both (eqb (a .from) (b .from)) (eqb (a .to) (b .to)) h in
+    ap₂ arrow (eqb-true (a .from) (b .from) (s .0)) (eqb-true (a .to) (b .to) (s .1))
+
+module _ (w : ℕ → ℕ → ℕ) where
+  pub total-append : (xs ys : List Arrow) → total w (xs ++ ys) ≡ total w xs + total w ys
+  unfolding total
+  total-append xs ys = sum-append (λ a. w (a .from) (a .to)) xs ys
+
+  pub total-flip : (xs : List Arrow) → total w (map flip xs) ≡ total (λ i j. w j i) xs
+  unfolding total
+  total-flip xs = sum-map (λ a. w (a .from) (a .to)) flip xs
+
+  pub total-rearranged : (xs ys : List Arrow) → rearranged sameArrow xs ys ≡ true → total w xs ≡ total w ys
+  unfolding total
+  total-rearranged xs ys h = sum-rearranged sameArrow same-arrow (λ a. w (a .from) (a .to)) xs ys h
+
+  pub total-rename : (f : ℕ → ℕ) (ts : List Triangle) → total w (sides (map (rename f) ts)) ≡ total (λ i j. w (f i) (f j)) (sides ts)
+  unfolding total sides sumOf
+  total-rename f [] = refl
+  total-rename f (t ∷ ts) = omega (arith, total-rename f ts)

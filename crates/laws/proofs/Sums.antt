@@ -1,0 +1,46 @@
+-- Sums and properties over a list: joined, mapped, and of equal worth.
+use mathlib.Core.Path.{_≡_, refl, _∙_}
+use mathlib.Core.List.{List, [], _∷_, _++_, map, flatMap, List·Memᴰ, List·Memᴰ·head, List·Memᴰ·tail}
+use Prim.Native.Nat.{ℕ, _+_}
+use native.Mathlib.Omega.{arith}
+use Rattle.laws.specs.Sum.{sumOf, All}
+
+pub sum-append : {A : Type 0} (v : A → ℕ) (xs ys : List A) → sumOf v (xs ++ ys) ≡ sumOf v xs + sumOf v ys
+unfolding sumOf
+sum-append v [] ys = omega arith
+sum-append v (x ∷ xs) ys = omega (arith, sum-append v xs ys)
+
+pub sum-map : {A B : Type 0} (v : B → ℕ) (f : A → B) (xs : List A) → sumOf v (map f xs) ≡ sumOf (λ a. v (f a)) xs
+unfolding sumOf
+sum-map v f [] = refl
+sum-map v f (x ∷ xs) = omega (arith, sum-map v f xs)
+
+pub sum-same : {A : Type 0} (u v : A → ℕ) → ((a : A) → u a ≡ v a) → (xs : List A) → sumOf u xs ≡ sumOf v xs
+unfolding sumOf
+sum-same u v h [] = refl
+sum-same u v h (x ∷ xs) = omega (arith, h x, sum-same u v h xs)
+
+pub sum-flat : {A B : Type 0} (v : B → ℕ) (f : A → List B) (xs : List A) → sumOf v (flatMap f xs) ≡ sumOf (λ a. sumOf v (f a)) xs
+unfolding sumOf flatMap
+sum-flat v f [] = refl
+sum-flat v f (x ∷ xs) = sum-append v (f x) (flatMap f xs) ∙ omega (arith, sum-flat v f xs)
+
+pub all-append : {A : Type 0} (P : A → Type 0) (xs ys : List A) → All P xs → All P ys → All P (xs ++ ys)
+all-append P [] ys a b = b
+all-append P (x ∷ xs) ys a b = (a .0, all-append P xs ys (a .1) b)
+
+pub all-map : {A B : Type 0} (P : B → Type 0) (f : A → B) (xs : List A) → All (λ a. P (f a)) xs → All P (map f xs)
+all-map P f [] a = tt
+all-map P f (x ∷ xs) a = (a .0, all-map P f xs (a .1))
+
+pub all-weaken : {A : Type 0} (P Q : A → Type 0) → ((a : A) → P a → Q a) → (xs : List A) → All P xs → All Q xs
+all-weaken P Q f [] a = tt
+all-weaken P Q f (x ∷ xs) a = (f x (a .0), all-weaken P Q f xs (a .1))
+
+-- each element's image is in the list's image
+pub all-mapped : {A B : Type 0} (f : A → B) (xs : List A) → All (λ x. List·Memᴰ (f x) (map f xs)) xs
+all-mapped f [] = tt
+all-mapped f (x ∷ xs) = (
+  List·Memᴰ·head refl,
+  all-weaken (λ y. List·Memᴰ (f y) (map f xs)) (λ y. List·Memᴰ (f y) (f x ∷ map f xs)) (λ y m. List·Memᴰ·tail m) xs (all-mapped f xs),
+)

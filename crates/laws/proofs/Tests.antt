@@ -1,0 +1,46 @@
+-- A test over a whole range, a whole list or all rows of Booleans, closed by one computation, put to use at one entry.
+use mathlib.Core.Path.{_≡_, refl}
+use mathlib.Core.Bool.{Bool, true, false, _&&_, and-eq-true-iff}
+use mathlib.Core.List.{List, [], _∷_}
+use Prim.Native.Nat.{ℕ, zero, suc, _<_}
+use native.Mathlib.Decide.{decLt}
+use native.Mathlib.Omega.{arith}
+use lib.ListN.{length}
+use Rattle.laws.specs.Range.{allTo}
+use Rattle.laws.specs.Sum.{allOf, All}
+use Rattle.laws.specs.Bits.{allRows}
+
+-- both parts of a test that passed
+pub both : (a b : Bool) → (a && b) ≡ true → (a ≡ true) × (b ≡ true)
+both a b h = and-eq-true-iff a b .0 h
+
+-- at one number below n
+pub all-at : (n : ℕ) (p : ℕ → Bool) → allTo n p ≡ true → (k : ℕ) → k < n → p k ≡ true
+unfolding allTo
+all-at zero p h k l = absurd (omega arith)
+all-at (suc n) p h k l =
+    let s = both (p n) (allTo n p) h in
+    go (decLt k n) (λ l′. all-at n p (s .1) k l′) (s .0)
+  where
+    go : Dec (k < n) → (k < n → p k ≡ true) → p n ≡ true → p k ≡ true
+    go (yes l′) below top = below l′
+    go (no ge) below top = let q : k ≡ n = omega arith in rw q top
+
+-- at each element of a list, as a property that the test shows
+pub all-of : {A : Type 0} (p : A → Bool) (P : A → Type 0) → ((a : A) → p a ≡ true → P a) → (xs : List A) → allOf p xs ≡ true → All P xs
+unfolding allOf
+all-of p P shows [] h = tt
+all-of p P shows (x ∷ xs) h =
+    let s = both (p x) (allOf p xs) h in
+    (shows x (s .0), all-of p P shows xs (s .1))
+
+-- at one row of n Booleans
+pub row-at : (n : ℕ) (p : List Bool → Bool) → allRows n p ≡ true → (bs : List Bool) → length bs ≡ n → p bs ≡ true
+unfolding allRows
+row-at zero p h [] l = h
+row-at zero p h (b ∷ bs) l = absurd (omega arith)
+row-at (suc n) p h [] l = absurd (omega arith)
+row-at (suc n) p h (true ∷ bs) l =
+    row-at n (λ bs. p (true ∷ bs)) (both (allRows n (λ bs. p (true ∷ bs))) (allRows n (λ bs. p (false ∷ bs))) h .0) bs (omega arith)
+row-at (suc n) p h (false ∷ bs) l =
+    row-at n (λ bs. p (false ∷ bs)) (both (allRows n (λ bs. p (true ∷ bs))) (allRows n (λ bs. p (false ∷ bs))) h .1) bs (omega arith)
