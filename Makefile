@@ -1,0 +1,23 @@
+# make test   proves every crate from nothing, tries the must-fail edits, and runs the tests from outside
+# make run    runs the library on a worked example
+
+SHELL := bash
+.SHELLFLAGS := -euo pipefail -c
+.ONESHELL:
+.PHONY: test run
+
+# rt's last line is kept, and said again as the very last line once every other step has passed too.
+test:
+	@rt fmt --check
+	kept=$$(mktemp)
+	trap 'rm -f "$$kept"' EXIT
+	rt ci | tee "$$kept"
+	verdict=$$(tail -n 1 "$$kept")
+	grep -Eqx '[0-9]+ passed, 0 failed' <<<"$$verdict"
+	rt staticlib viewer
+	tools/cargo test --quiet --manifest-path host/Cargo.toml
+	echo "$$verdict"
+
+run:
+	@rt staticlib viewer >/dev/null
+	tools/cargo run --quiet --manifest-path host/Cargo.toml --package viewer --example cases
