@@ -1,0 +1,94 @@
+//! The extractor: checks, counts and rooms.
+
+use crate::grid::Grid;
+use crate::mesh::{MOST_POINTS, MOST_TRIANGLES};
+
+/// What the extractor returns.
+#[derive(Clone, Copy, PartialEq, Eq, Debug)]
+pub struct Extracted {
+    /// The refusal number, 0 if granted.
+    pub number: u32,
+    /// The number of points, 0 if refused.
+    pub points: u32,
+    /// The number of triangles, 0 if refused.
+    pub triangles: u32,
+}
+
+/// "A refusal gives the number and zero counts".
+fn refused(number: u32) -> Extracted {
+    Extracted {
+        number,
+        points: 0,
+        triangles: 0,
+    }
+}
+
+/// "The extractor fills points (three u32 each), edge numbers, marks and
+/// triangles from the front of the lent rooms; the rest of each room stays. Its
+/// work room has exactly 3·nx·ny·nz numbers."
+///
+/// "Extractor: 1, 2, 3, 4, 5." "Lent rooms stay, but a refusal that comes after
+/// 3 in its call's order leaves the work room zero. So does a granted call. A
+/// room for points or triangles counts its whole threes."
+#[allow(clippy::too_many_arguments)]
+pub fn extract(
+    nx: u32,
+    ny: u32,
+    nz: u32,
+    grey: u16,
+    samples: &[u16],
+    points: &mut [u32],
+    edges: &mut [u32],
+    marks: &mut [u8],
+    triangles: &mut [u32],
+    work: &mut [u32],
+) -> Extracted {
+    let sides = [nx, ny, nz];
+    // "a side is below 2 or above 64"
+    if sides.iter().any(|side| !(2..=64).contains(side)) {
+        return refused(1);
+    }
+    // Each side is at most 64 here, so the products below are small.
+    let sample_count = (nx * ny * nz) as usize;
+    // "samples are not nx·ny·nz"
+    if samples.len() != sample_count {
+        return refused(2);
+    }
+    // "a work or result room of fixed length has another length"
+    if work.len() != 3 * sample_count {
+        return refused(3);
+    }
+    work.fill(0);
+
+    let grid = Grid {
+        sides,
+        grey,
+        samples,
+    };
+    let point_list = grid.points();
+    // "points exceed 250,000 or the least of the point, edge and mark rooms"
+    let point_room = (points.len() / 3).min(edges.len()).min(marks.len());
+    if point_list.len() > MOST_POINTS.min(point_room) {
+        return refused(4);
+    }
+    let triangle_list = grid.triangles(&point_list);
+    // "triangles exceed 500,000 or their room"
+    let triangle_room = triangles.len() / 3;
+    if triangle_list.len() > MOST_TRIANGLES.min(triangle_room) {
+        return refused(5);
+    }
+
+    for (i, point) in point_list.iter().enumerate() {
+        points[3 * i..3 * i + 3].copy_from_slice(&point.place);
+        edges[i] = point.edge;
+        marks[i] = point.mark;
+    }
+    for (i, triangle) in triangle_list.iter().enumerate() {
+        triangles[3 * i..3 * i + 3].copy_from_slice(triangle);
+    }
+    Extracted {
+        number: 0,
+        points: point_list.len() as u32,
+        triangles: triangle_list.len() as u32,
+    }
+}

@@ -1,0 +1,135 @@
+//! The points and triangles of a grid, as lists.
+
+use crate::cube;
+
+/// A grid of samples and one grey value. The sides are 2 to 64 and the samples
+/// are as many as the sides say.
+pub(crate) struct Grid<'a> {
+    pub(crate) sides: [u32; 3],
+    pub(crate) grey: u16,
+    pub(crate) samples: &'a [u16],
+}
+
+/// The point of one crossed grid edge.
+pub(crate) struct Point {
+    pub(crate) edge: u32,
+    pub(crate) place: [u32; 3],
+    pub(crate) mark: u8,
+}
+
+/// "256·|g − v0| / |v1 − v0| to the nearest whole number, halves up (g is the
+/// grey value)."
+///
+/// `v0` and `v1` are the samples at the lower and the upper end of a crossed
+/// edge; they differ.
+pub fn offset(v0: u16, v1: u16, grey: u16) -> u32 {
+    let numerator = 256 * u32::from(grey.abs_diff(v0));
+    let denominator = u32::from(v1.abs_diff(v0));
+    (2 * numerator + denominator) / (2 * denominator)
+}
+
+impl Grid<'_> {
+    /// "Sample (x,y,z) stands at s = x + nx(y + ny z)."
+    fn sample_number(&self, [x, y, z]: [u32; 3]) -> u32 {
+        let [nx, ny, _] = self.sides;
+        x + nx * (y + ny * z)
+    }
+
+    fn sample(&self, at: [u32; 3]) -> u16 {
+        self.samples[self.sample_number(at) as usize]
+    }
+
+    /// "A sample is *above* if it is at least the grey value, else *below*."
+    fn above(&self, at: [u32; 3]) -> bool {
+        self.sample(at) >= self.grey
+    }
+
+    /// "Grid edge 3s + a leaves that sample along axis a (0 is x, 1 is y, 2 is
+    /// z) towards the larger coordinate, if a sample is there."
+    fn edge_number(&self, at: [u32; 3], axis: usize) -> u32 {
+        3 * self.sample_number(at) + axis as u32
+    }
+
+    /// "A point lies on an outer face when its grid edge does (a coordinate
+    /// across the edge is 0 or the last) [..]; its mark is then 1, else 0."
+    fn mark(&self, at: [u32; 3], axis: usize) -> u8 {
+        let outer = (0..3).any(|across| {
+            across != axis && (at[across] == 0 || at[across] == self.sides[across] - 1)
+        });
+        u8::from(outer)
+    }
+
+    /// The point of the edge that leaves `at` along `axis`, if the edge is
+    /// there and crossed.
+    ///
+    /// "Across the edge it has the edge's whole coordinates times 256. Along
+    /// it, from the lower end v0 to v1, it stands at 256 times the lower end's
+    /// coordinate plus" the [`offset`].
+    fn point(&self, at: [u32; 3], axis: usize) -> Option<Point> {
+        let mut end = at;
+        end[axis] += 1;
+        if end[axis] == self.sides[axis] || self.above(at) == self.above(end) {
+            return None;
+        }
+        let mut place = at.map(|coordinate| 256 * coordinate);
+        place[axis] += offset(self.sample(at), self.sample(end), self.grey);
+        Some(Point {
+            edge: self.edge_number(at, axis),
+            place,
+            mark: self.mark(at, axis),
+        })
+    }
+
+    /// "One point per crossed grid edge, in rising order of grid edge number,
+    /// numbered from 0."
+    pub(crate) fn points(&self) -> Vec<Point> {
+        let mut points = Vec::new();
+        for at in places(self.sides) {
+            points.extend((0..3).filter_map(|axis| self.point(at, axis)));
+        }
+        points
+    }
+
+    /// The case number of the cube whose corner 0 is the sample `at`.
+    fn case(&self, at: [u32; 3]) -> u8 {
+        (0..cube::CORNERS)
+            .filter(|&corner| self.above(shifted(at, cube::corner_place(corner))))
+            .fold(0, |case, corner| case | 1 << corner)
+    }
+
+    /// "Triangles come cube by cube, x fastest, then y, then z, in the case's
+    /// order."
+    ///
+    /// `points` is the list of [`Grid::points`].
+    pub(crate) fn triangles(&self, points: &[Point]) -> Vec<[u32; 3]> {
+        let mut number_of = vec![None; 3 * self.samples.len()];
+        for (number, point) in (0..).zip(points) {
+            number_of[point.edge as usize] = Some(number);
+        }
+        let mut cases: Vec<Option<Vec<[u8; 3]>>> = vec![None; 256];
+        let ends: Vec<_> = (0..cube::EDGES).map(cube::edge_ends).collect();
+        let mut triangles = Vec::new();
+        for at in places(self.sides.map(|side| side - 1)) {
+            let case = self.case(at);
+            for triangle in cases[usize::from(case)].get_or_insert_with(|| cube::triangles(case)) {
+                triangles.push(triangle.map(|cube_edge| {
+                    let (axis, low, _) = ends[usize::from(cube_edge)];
+                    let low_end = shifted(at, cube::corner_place(low));
+                    number_of[self.edge_number(low_end, axis) as usize]
+                        .expect("a crossed cube edge is a crossed grid edge")
+                }));
+            }
+        }
+        triangles
+    }
+}
+
+/// All (x, y, z) below `sides`, "x fastest, then y, then z".
+fn places(sides: [u32; 3]) -> impl Iterator<Item = [u32; 3]> {
+    let [nx, ny, nz] = sides;
+    (0..nz).flat_map(move |z| (0..ny).flat_map(move |y| (0..nx).map(move |x| [x, y, z])))
+}
+
+fn shifted(at: [u32; 3], by: [u8; 3]) -> [u32; 3] {
+    [0, 1, 2].map(|axis| at[axis] + u32::from(by[axis]))
+}

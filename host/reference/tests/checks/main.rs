@@ -1,0 +1,11 @@
+//! Runs the reference against the figures of document 01, against its limits
+//! and refusals, and against second ways to the same answers.
+
+mod cube;
+mod curvature;
+mod extract;
+mod mesh;
+mod shells;
+mod smooth;
+mod text;
+mod tools;
