@@ -3,7 +3,7 @@ use mathlib.Core.List.{List, [], _∷_, flatMap, flatten}
 use Prim.Native.Nat.{ℕ}
 use lib.ListN.{length, getD}
 use Rattle.laws.specs.Range.{joinTo}
-use Rattle.laws.specs.Mesh.{Arrow, Triangle, triangle}
+use Rattle.laws.specs.Mesh.{Arrow, Triangle, triangle, cornersOf}
 use Rattle.cube.specs.Cube.{isAbove, edgeBetween, cubeEdges}
 use Rattle.cube.specs.Face.{segmentsOf}
 use Rattle.cube.specs.Loop.{loops, fan}
@@ -30,7 +30,7 @@ count k = length (triangles k)
 
 -- the three edge numbers of the case's triangle n; zeros where it has none
 unfoldable pub triangleAt : ℕ → ℕ → List ℕ
-triangleAt k n = let t = getD (triangles k) n (triangle 0 0 0) in t .one ∷ t .two ∷ t .three ∷ []
+triangleAt k n = cornersOf (getD (triangles k) n (triangle 0 0 0))
 
 -- five triangles of three edge numbers each, unused ones zero
 unfoldable pub answer : ℕ → List (List ℕ)

@@ -5,7 +5,9 @@ use mathlib.Core.List.{List, [], _∷_}
 use Prim.Native.Nat.{ℕ, zero, suc, _<_}
 use native.Mathlib.Decide.{decLt}
 use native.Mathlib.Omega.{arith}
+use lib.Dec.{eqb}
 use lib.ListN.{length}
+use borrow.Author.Tests.{eq-eqb, ne-eqb, eqb-true, eqb-false}
 use Rattle.laws.specs.Range.{allTo}
 use Rattle.laws.specs.Sum.{allOf, All}
 use Rattle.laws.specs.Bits.{allRows}
@@ -44,3 +46,11 @@ row-at (suc n) p h (true ∷ bs) l =
     row-at n (λ bs. p (true ∷ bs)) (both (allRows n (λ bs. p (true ∷ bs))) (allRows n (λ bs. p (false ∷ bs))) h .0) bs (omega arith)
 row-at (suc n) p h (false ∷ bs) l =
     row-at n (λ bs. p (false ∷ bs)) (both (allRows n (λ bs. p (true ∷ bs))) (allRows n (λ bs. p (false ∷ bs))) h .1) bs (omega arith)
+
+-- two tests of equality that hold together
+pub eqb-same : (a b c d : ℕ) → (a ≡ b → c ≡ d) → (c ≡ d → a ≡ b) → eqb a b ≡ eqb c d
+eqb-same a b c d there back = go (eqb c d) refl
+  where
+    go : (t : Bool) → eqb c d ≡ t → eqb a b ≡ t
+    go true e = eq-eqb a b (back (eqb-true c d e))
+    go false e = ne-eqb a b (λ h. eqb-false c d e (there h))

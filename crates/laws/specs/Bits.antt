@@ -19,3 +19,13 @@ bit n (suc i) = bit (n / 2) i
 unfoldable pub allRows : ℕ → (List Bool → Bool) → Bool
 allRows zero p = p []
 allRows (suc n) p = allRows n (λ bs. p (true ∷ bs)) && allRows n (λ bs. p (false ∷ bs))
+
+-- f x, f (x + 1), .. : n of them
+unfoldable pub valuesFrom : (ℕ → Bool) → ℕ → ℕ → List Bool
+valuesFrom f x zero = []
+valuesFrom f x (suc n) = f x ∷ valuesFrom f (x + 1) n
+
+-- the number halved i times: its bits from bit i on
+unfoldable pub halved : ℕ → ℕ → ℕ
+halved n zero = n
+halved n (suc i) = halved n i / 2

@@ -1,5 +1,5 @@
 -- Triangles and the ways that their sides run.
-use mathlib.Core.List.{List, [], _∷_}
+use mathlib.Core.List.{List, [], _∷_, flatMap}
 use mathlib.Core.Bool.{Bool, _&&_}
 use Prim.Native.Nat.{ℕ}
 use lib.Dec.{eqb}
@@ -40,3 +40,10 @@ total w xs = sumOf (λ a. w (a .from) (a .to)) xs
 
 unfoldable pub sameArrow : Arrow → Arrow → Bool
 sameArrow a b = eqb (a .from) (b .from) && eqb (a .to) (b .to)
+
+-- a triangle's three numbers in a list, and those of a list of triangles one after the other
+abbrev pub cornersOf : Triangle → List ℕ
+cornersOf t = t .one ∷ t .two ∷ t .three ∷ []
+
+unfoldable pub flat : List Triangle → List ℕ
+flat ts = flatMap cornersOf ts

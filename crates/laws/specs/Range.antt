@@ -29,3 +29,7 @@ keepTo n p = joinTo n (λ i. cond (p i) (i ∷ []) [])
 unfoldable pub allTo : ℕ → (ℕ → Bool) → Bool
 allTo zero p = true
 allTo (suc n) p = p n && allTo n p
+
+-- the lists of the cells of a box joined: x fastest, then y, then z
+unfoldable pub joinBox : {A : Type 0} → ℕ → ℕ → ℕ → (ℕ → ℕ → ℕ → List A) → List A
+joinBox nx ny nz f = joinTo nz (λ z. joinTo ny (λ y. joinTo nx (λ x. f x y z)))

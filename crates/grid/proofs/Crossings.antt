@@ -1,0 +1,96 @@
+-- Crossed edges by the coordinates of the sample that they leave, and by which samples are above.
+use mathlib.Core.Path.{_≡_, refl, ap, ap₂, sym, _∙_}
+use mathlib.Core.Bool.{Bool, true, false, _&&_, xor, and-true}
+use Prim.Native.Nat.{ℕ, zero, suc, _+_, _*_, _-_, _/_, _%_, _^_, _<_, _≤_}
+use native.Mathlib.Nat.{mul-zero, add-zero, zero-add, mul-one, mul-comm, div-lt-iff-lt-mul}
+use native.Mathlib.Omega.{arith}
+use lib.Dec.{eqb, ltb}
+use borrow.Author.Tests.{lt-ltb, ltb-true}
+use Rattle.laws.proofs.Tests.{both}
+use Rattle.grid.specs.Grid.{Size, sampleCount, site, coordinate, side, Kind, axes, along, otherEnd, fitsAlong, isThere, edgeCount, crossedFrom, crossed}
+use Rattle.grid.proofs.Sites.{choose, site-add, site-of, site-small, coordinate-site, below-x, below-y, below-z}
+
+-- grid edge 3s + a by its sample and its axis
+pub edge-sample : (s a : ℕ) → a < 3 → (3 * s + a) / 3 ≡ s
+edge-sample s a h = omega arith
+
+pub edge-axis : (s a : ℕ) → a < 3 → (3 * s + a) % 3 ≡ a
+edge-axis s a h = omega arith
+
+-- one sample along each axis
+module _ (n : Size) where
+  pub step-x : site n 1 0 0 ≡ 1
+  unfolding site
+  step-x = simp (mul-zero, add-zero)
+
+  pub step-y : site n 0 1 0 ≡ n .nx
+  unfolding site
+  step-y = simp (mul-zero, add-zero, zero-add, mul-one)
+
+  pub step-z : site n 0 0 1 ≡ n .nx * n .ny
+  unfolding site
+  step-z = simp (mul-one, zero-add)
+
+module _ (n : Size) (above : ℕ → Bool) where
+  crossed-at : (s a : ℕ) → a < 3 → crossed axes n above (3 * s + a) ≡ crossedFrom axes n above s (2 ^ a)
+  unfolding crossed
+  crossed-at s a h = ap₂ (λ s a. crossedFrom axes n above s (2 ^ a)) (edge-sample s a h) (edge-axis s a h)
+
+  -- of the three tests whether a sample is there, only the one along the edge can fail
+  module _ (x y z : ℕ) (hx : x < n .nx) (hy : y < n .ny) (hz : z < n .nz) where
+    abbrev s : ℕ
+    s = site n x y z
+
+    fits : (d axis : ℕ) → fitsAlong n s d axis ≡ ltb (choose axis x y z + along d axis) (side n axis)
+    unfolding fitsAlong
+    fits d axis = rw (coordinate-site n x y z hx hy hz axis)
+
+    tested : (d : ℕ) → crossedFrom axes n above s d
+        ≡ ((ltb (x + along d 0) (n .nx) && (ltb (y + along d 1) (n .ny) && ltb (z + along d 2) (n .nz)))
+        && xor (above s) (above (s + site n (along d 0) (along d 1) (along d 2))))
+    unfolding crossedFrom isThere otherEnd side
+    tested d = rw (fits d 0, fits d 1, fits d 2)
+
+    stays : (c side : ℕ) → c < side → ltb (c + 0) side ≡ true
+    stays c side h = lt-ltb (c + 0) side (omega arith)
+
+    pub crossed-x : crossed axes n above (3 * s) ≡ (ltb (x + 1) (n .nx) && xor (above s) (above (s + 1)))
+    crossed-x =
+        let e : 3 * s ≡ 3 * s + 0 = omega arith in
+        ap (crossed axes n above) e
+        ∙ crossed-at s 0 (omega arith)
+        ∙ tested 1
+        ∙ rw (stays y (n .ny) hy, stays z (n .nz) hz, and-true, step-x n)
+
+    pub crossed-y : crossed axes n above (3 * s + 1) ≡ (ltb (y + 1) (n .ny) && xor (above s) (above (s + n .nx)))
+    crossed-y = crossed-at s 1 (omega arith) ∙ tested 2 ∙ rw (stays x (n .nx) hx, stays z (n .nz) hz, and-true, step-y n)
+
+    pub crossed-z : crossed axes n above (3 * s + 2) ≡ (ltb (z + 1) (n .nz) && xor (above s) (above (s + n .nx * n .ny)))
+    crossed-z = crossed-at s 2 (omega arith) ∙ tested 4 ∙ rw (stays x (n .nx) hx, stays y (n .ny) hy, step-z n)
+
+-- which edges are crossed depends on the samples of the grid alone
+module _ (k : Kind) (n : Size) (px : 0 < n .nx) (py : 0 < n .ny) (above other : ℕ → Bool)
+    (same : (s : ℕ) → s < sampleCount n → above s ≡ other s) where
+  there-small : (s d : ℕ) → s < sampleCount n → isThere n s d ≡ true → otherEnd n s d < sampleCount n
+  unfolding isThere fitsAlong otherEnd side
+  there-small s d h t =
+      let p = both (ltb (coordinate n 0 s + along d 0) (n .nx)) _ t in
+      let q = both (ltb (coordinate n 1 s + along d 1) (n .ny)) _ (p .1) in
+      let r =
+      site-small n (coordinate n 0 s + along d 0) (coordinate n 1 s + along d 1) (coordinate n 2 s + along d 2) (ltb-true _ _ (p .0))
+      (ltb-true _ _ (q .0))
+      (ltb-true _ _ (q .1)) in
+      rw (site-add n (coordinate n 0 s) (coordinate n 1 s) (coordinate n 2 s) (along d 0) (along d 1) (along d 2), site-of n s) at r
+
+  crossed-same : (s d : ℕ) → s < sampleCount n → crossedFrom k n above s d ≡ crossedFrom k n other s d
+  unfolding crossedFrom
+  crossed-same s d h = go (isThere n s d) refl
+    where
+      go : (b : Bool) → isThere n s d ≡ b → (b && xor (above s) (above (otherEnd n s d))) ≡ (b && xor (other s) (other (otherEnd n s d)))
+      go true t = ap₂ xor (same s h) (same (otherEnd n s d) (there-small s d h t))
+      go false t = refl
+
+  pub crossed-cong : 0 < k .many → (e : ℕ) → e < edgeCount k n → crossed k n above e ≡ crossed k n other e
+  unfolding crossed
+  crossed-cong pk e h =
+      crossed-same (e / k .many) (k .direction (e % k .many)) (div-lt-iff-lt-mul pk .1 (rw (mul-comm (sampleCount n) (k .many)) h))

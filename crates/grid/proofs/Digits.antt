@@ -1,0 +1,18 @@
+-- A number r + m q with r below m: its remainder and quotient by m, and its bound.
+use mathlib.Core.Path.{_≡_}
+use Prim.Native.Nat.{ℕ, _+_, _*_, _/_, _%_, _<_}
+use native.Mathlib.Nat.{mul-comm}
+use native.Mathlib.Omega.{arith}
+use lib.Arith.{digits-div, digits-mod, digits-lt}
+
+swapped : (r m q : ℕ) → r + m * q ≡ q * m + r
+swapped r m q = omega (arith, mul-comm m q)
+
+pub low-mod : (r m q : ℕ) → r < m → (r + m * q) % m ≡ r
+low-mod r m q h = rw (swapped r m q) (digits-mod q h)
+
+pub low-div : (r m q : ℕ) → r < m → (r + m * q) / m ≡ q
+low-div r m q h = rw (swapped r m q) (digits-div q h)
+
+pub low-lt : (r m q n : ℕ) → r < m → q < n → r + m * q < m * n
+low-lt r m q n h k = omega (arith, mul-comm m q, mul-comm m n, digits-lt k h)

@@ -1,0 +1,7 @@
+-- Document 01, "Numbers and sizes" and "Points and order", in their order: the limits, samples and grid edges, the points, the triangles. Work is
+-- for the extractor's parts.
+pub mod Limits
+pub mod Grid
+pub mod Point
+pub mod Mesh
+pub mod Work

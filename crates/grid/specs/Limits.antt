@@ -1,0 +1,23 @@
+-- Document 01, "Numbers and sizes": every bound of the base, here and nowhere else.
+use Prim.Native.Nat.{ℕ, _*_, _-_}
+
+-- each side nx, ny, nz
+abbrev pub leastSide : ℕ
+leastSide = 2
+
+abbrev pub mostSide : ℕ
+mostSide = 64
+
+-- points V and triangles T
+abbrev pub mostPoints : ℕ
+mostPoints = 250000
+
+abbrev pub mostTriangles : ℕ
+mostTriangles = 500000
+
+-- a voxel has 256 units, and no coordinate is beyond the last sample of the longest side
+abbrev pub unit : ℕ
+unit = 256
+
+abbrev pub mostCoordinate : ℕ
+mostCoordinate = unit * (mostSide - 1)

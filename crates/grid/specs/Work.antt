@@ -1,0 +1,26 @@
+-- What the extractor's parts rely on while it runs.
+use mathlib.Core.Path.{_≡_}
+use mathlib.Core.List.{List}
+use mathlib.Core.Bool.{Bool, true}
+use Prim.Native.Nat.{ℕ, _≤_, _<_}
+use lib.ListN.{length, getD}
+use Rattle.grid.specs.Limits.{leastSide, mostSide}
+use Rattle.grid.specs.Grid.{Size, axes, edgeCount, crossed}
+use Rattle.grid.specs.Point.{number}
+
+abbrev pub size : ℕ → ℕ → ℕ → Size
+size nx ny nz = record { nx = nx; ny = ny; nz = nz }
+
+-- the sides are within the limits
+pub record SidesFit (nx ny nz : ℕ) : Type 0 where
+  pub least-x : leastSide ≤ nx
+  pub most-x : nx ≤ mostSide
+  pub least-y : leastSide ≤ ny
+  pub most-y : ny ≤ mostSide
+  pub least-z : leastSide ≤ nz
+  pub most-z : nz ≤ mostSide
+
+-- the work room holds, at each crossed edge, the number of its point
+pub record Numbered (n : Size) (above : ℕ → Bool) (work : List ℕ) : Type 0 where
+  pub whole : length work ≡ edgeCount axes n
+  pub ranks : (e : ℕ) → e < edgeCount axes n → crossed axes n above e ≡ true → getD work e 0 ≡ number axes n above e

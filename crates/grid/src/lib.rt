@@ -1,0 +1,40 @@
+// Sizes and limits, and the leaves of a point's place and mark.
+ghost use mathlib.Core.Path.{_≡_};
+ghost use Prim.Native.Nat.{_<_};
+ghost use Rattle.grid.specs.Grid.{isEnd};
+ghost use Rattle.grid.specs.Point.{apart, offset as offsetOf};
+
+pub mod limits;
+
+use limits::UNIT;
+
+// How far apart two samples are.
+fn apart_by(a: u16, b: u16) -> u32
+    ensures { λ r. ⌜ r ≡ apart a b ⌝ }
+{
+    if a < b {
+        (b - a) as u32
+    } else {
+        (a - b) as u32
+    }
+}
+
+// How far along a crossed edge its point stands, from the lower end v0 to v1: 0 to 256.
+pub fn offset(v0: u16, v1: u16, grey: u16) -> u32
+    requires { ⌜ (v0 ≡ v1 → ⊥) ⌝ }
+    ensures { λ r. ⌜ r ≡ offsetOf v0 v1 grey ⌝ }
+{
+    let whole = apart_by(v1, v0);
+    (2 * (UNIT * apart_by(grey, v0)) + whole) / (2 * whole)
+}
+
+// Is a coordinate the first or the last along its side?
+pub fn outermost(c: u32, side: u32) -> bool
+    requires { ⌜ c < side ⌝ }
+    ensures { λ r. ⌜ r ≡ isEnd c side ⌝ }
+{
+    if c == 0 {
+        return true;
+    }
+    c + 1 == side
+}

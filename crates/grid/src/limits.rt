@@ -1,0 +1,14 @@
+// Document 01, "Numbers and sizes": every bound of the base, as specs/Limits.antt has them, here and nowhere else in code.
+pub const LEAST_SIDE: u32 = 2;
+
+pub const MOST_SIDE: u32 = 64;
+
+pub const MOST_POINTS: u32 = 250_000;
+
+pub const MOST_TRIANGLES: u32 = 500_000;
+
+// Units in a voxel.
+pub const UNIT: u32 = 256;
+
+// Rows of samples in the largest grid.
+pub const MOST_ROWS: usize = 4096;

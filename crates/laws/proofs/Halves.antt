@@ -1,0 +1,49 @@
+-- A number's bits, read off as it is halved again and again.
+use mathlib.Core.Path.{_≡_, refl, ap, sym, _∙_}
+use mathlib.Core.List.{List, [], _∷_}
+use mathlib.Core.Bool.{Bool, true, false}
+use Prim.Native.Nat.{ℕ, zero, suc, _+_, _*_, _/_, _%_, _<_}
+use native.Mathlib.Numerals.{add-one}
+use native.Mathlib.Nat.{add-zero, add-assoc, zero-add}
+use native.Mathlib.Omega.{arith}
+use lib.Dec.{eqb}
+use lib.ListN.{length, getD}
+use Rattle.laws.specs.Bits.{bits, bit, valuesFrom, halved}
+use Rattle.laws.proofs.Binary.{bit-of-bits}
+
+pub halved-next : (n i : ℕ) → halved n (i + 1) ≡ halved n i / 2
+unfolding halved
+halved-next n i = rw add-one
+
+halved-first : (n i : ℕ) → halved (n / 2) i ≡ halved n i / 2
+unfolding halved
+halved-first n zero = refl
+halved-first n (suc i) = ap (λ k. k / 2) (halved-first n i)
+
+-- bit i is the lowest bit of the number halved i times
+pub bit-halved : (n i : ℕ) → bit n i ≡ eqb (halved n i % 2) 1
+unfolding bit halved
+bit-halved n zero = refl
+bit-halved n (suc i) = bit-halved (n / 2) i ∙ ap (λ k. eqb (k % 2) 1) (halved-first n i)
+
+pub length-values : (f : ℕ → Bool) (x n : ℕ) → length (valuesFrom f x n) ≡ n
+unfolding valuesFrom
+length-values f x zero = refl
+length-values f x (suc n) = ap suc (length-values f (x + 1) n)
+
+value-at : (f : ℕ → Bool) (x n i : ℕ) → i < n → getD (valuesFrom f x n) i false ≡ f (x + i)
+unfolding valuesFrom
+value-at f x zero i l = absurd (omega arith)
+value-at f x (suc n) zero l = ap f (sym (add-zero x))
+value-at f x (suc n) (suc i) l = value-at f (x + 1) n i (omega arith) ∙ ap f (omega arith)
+
+-- the mask of n values has them for its bits
+pub bit-of-values : (f : ℕ → Bool) (n i : ℕ) → i < n → bit (bits (valuesFrom f 0 n)) i ≡ f i
+bit-of-values f n i l =
+    bit-of-bits (valuesFrom f 0 n) i (omega (arith, length-values f 0 n)) ∙ value-at f 0 n i l ∙ ap f (zero-add i)
+
+-- nothing set
+pub bit-of-zero : (i : ℕ) → bit 0 i ≡ false
+unfolding bit
+bit-of-zero zero = refl
+bit-of-zero (suc i) = bit-of-zero i

@@ -1,0 +1,86 @@
+-- Sums, joins and counts over a range: one step more, parts and blocks of the range, and equal terms.
+use mathlib.Core.Path.{_≡_, refl, ap, ap₂, sym, _∙_}
+use mathlib.Core.List.{List, [], _∷_, _++_, map, flatMap, append-assoc, append-nil, map-append}
+use mathlib.Core.Bool.{Bool, true, false, cond}
+use Prim.Native.Nat.{ℕ, zero, suc, _+_, _*_, _<_, _≤_}
+use native.Mathlib.Nat.{mul-suc, mul-zero, add-zero, add-suc, add-assoc}
+use native.Mathlib.Numerals.{add-one}
+use native.Mathlib.Omega.{arith}
+use lib.ListN.{length, length-append}
+use Rattle.laws.specs.Range.{sumTo, joinTo, countTo, keepTo, one-if}
+
+-- one step of a walk, at n + 1 as the code has it
+pub sum-next : (n : ℕ) (f : ℕ → ℕ) → sumTo (n + 1) f ≡ sumTo n f + f n
+unfolding sumTo
+sum-next n f = rw add-one
+
+pub join-next : {A : Type 0} (n : ℕ) (f : ℕ → List A) → joinTo (n + 1) f ≡ joinTo n f ++ f n
+unfolding joinTo
+join-next n f = rw add-one
+
+-- equal terms
+pub sum-cong : (n : ℕ) (f g : ℕ → ℕ) → ((i : ℕ) → i < n → f i ≡ g i) → sumTo n f ≡ sumTo n g
+unfolding sumTo
+sum-cong zero f g h = refl
+sum-cong (suc n) f g h = ap₂ _+_ (sum-cong n f g (λ i l. h i (omega arith))) (h n (omega arith))
+
+pub join-cong : {A : Type 0} (n : ℕ) (f g : ℕ → List A) → ((i : ℕ) → i < n → f i ≡ g i) → joinTo n f ≡ joinTo n g
+unfolding joinTo
+join-cong zero f g h = refl
+join-cong (suc n) f g h = ap₂ _++_ (join-cong n f g (λ i l. h i (omega arith))) (h n (omega arith))
+
+pub count-cong : (n : ℕ) (p q : ℕ → Bool) → ((i : ℕ) → i < n → p i ≡ q i) → countTo n p ≡ countTo n q
+unfolding countTo
+count-cong n p q h = sum-cong n (λ i. one-if (p i)) (λ i. one-if (q i)) (λ i l. ap one-if (h i l))
+
+pub keep-cong : (n : ℕ) (p q : ℕ → Bool) → ((i : ℕ) → i < n → p i ≡ q i) → keepTo n p ≡ keepTo n q
+unfolding keepTo
+keep-cong n p q h =
+    join-cong n (λ i. cond (p i) (i ∷ []) []) (λ i. cond (q i) (i ∷ []) []) (λ i l. ap (λ b. cond b (i ∷ []) []) (h i l))
+
+-- a range in two parts
+pub sum-split : (m n : ℕ) (f : ℕ → ℕ) → sumTo (m + n) f ≡ sumTo m f + sumTo n (λ i. f (m + i))
+unfolding sumTo
+sum-split m zero f = rw add-zero (omega arith)
+sum-split m (suc n) f = rw add-suc (omega (arith, sum-split m n f))
+
+pub join-split : {A : Type 0} (m n : ℕ) (f : ℕ → List A) → joinTo (m + n) f ≡ joinTo m f ++ joinTo n (λ i. f (m + i))
+unfolding joinTo
+join-split m zero f = rw add-zero (sym (append-nil (joinTo m f)))
+join-split m (suc n) f = rw (add-suc, join-split m n f) (append-assoc (joinTo m f) (joinTo n (λ i. f (m + i))) (f (m + n)))
+
+pub count-split : (m n : ℕ) (p : ℕ → Bool) → countTo (m + n) p ≡ countTo m p + countTo n (λ i. p (m + i))
+unfolding countTo
+count-split m n p = sum-split m n (λ i. one-if (p i))
+
+-- a range in n blocks of m
+pub sum-blocks : (m n : ℕ) (f : ℕ → ℕ) → sumTo (m * n) f ≡ sumTo n (λ r. sumTo m (λ i. f (m * r + i)))
+unfolding sumTo
+sum-blocks m zero f = rw mul-zero
+sum-blocks m (suc n) f = rw mul-suc (sum-split (m * n) m f ∙ ap (λ a. a + sumTo m (λ i. f (m * n + i))) (sum-blocks m n f))
+
+pub join-blocks : {A : Type 0} (m n : ℕ) (f : ℕ → List A) → joinTo (m * n) f ≡ joinTo n (λ r. joinTo m (λ i. f (m * r + i)))
+unfolding joinTo
+join-blocks m zero f = rw mul-zero
+join-blocks m (suc n) f = rw mul-suc (join-split (m * n) m f ∙ ap (λ a. a ++ joinTo m (λ i. f (m * n + i))) (join-blocks m n f))
+
+-- what a join becomes: measured, mapped
+pub length-join : {A : Type 0} (n : ℕ) (f : ℕ → List A) → length (joinTo n f) ≡ sumTo n (λ i. length (f i))
+unfolding joinTo sumTo
+length-join zero f = refl
+length-join (suc n) f = simp length-append (omega (arith, length-join n f))
+
+pub map-join : {A B : Type 0} (g : A → B) (n : ℕ) (f : ℕ → List A) → map g (joinTo n f) ≡ joinTo n (λ i. map g (f i))
+unfolding joinTo
+map-join g zero f = refl
+map-join g (suc n) f = map-append g (joinTo n f) (f n) ∙ ap (λ a. a ++ map g (f n)) (map-join g n f)
+
+flat-append : {A B : Type 0} (g : A → List B) (xs ys : List A) → flatMap g (xs ++ ys) ≡ flatMap g xs ++ flatMap g ys
+unfolding flatMap
+flat-append g [] ys = refl
+flat-append g (x ∷ xs) ys = rw (flat-append g xs ys) (sym (append-assoc (g x) (flatMap g xs) (flatMap g ys)))
+
+pub flat-join : {A B : Type 0} (g : A → List B) (n : ℕ) (f : ℕ → List A) → flatMap g (joinTo n f) ≡ joinTo n (λ i. flatMap g (f i))
+unfolding joinTo flatMap
+flat-join g zero f = refl
+flat-join g (suc n) f = flat-append g (joinTo n f) (f n) ∙ ap (λ a. a ++ flatMap g (f n)) (flat-join g n f)
