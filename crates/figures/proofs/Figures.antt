@@ -7,8 +7,9 @@ use Rattle.cube.specs.Cube.{isAbove}
 use Rattle.cube.specs.Face.{cuts, wayRound, faceSegments, segmentsOf}
 use Rattle.cube.specs.Loop.{loops, fan}
 use Rattle.cube.specs.Answer.{segments, triangles}
+use Rattle.grid.specs.Point.{offset}
 use Rattle.figures.specs.Figure.{Holds, figures}
 
 pub figures-hold : All Holds figures
-unfolding triangles flatMap fan loops segments segmentsOf faceSegments cuts wayRound isAbove bit
-figures-hold = (refl, (refl, (refl, (refl, (refl, (refl, (refl, tt)))))))
+unfolding triangles flatMap fan loops segments segmentsOf faceSegments cuts wayRound isAbove bit offset
+figures-hold = (refl, (refl, (refl, (refl, (refl, (refl, (refl, (refl, (refl, (refl, (refl, tt)))))))))))

@@ -1,11 +1,12 @@
 -- Crossed edges by the coordinates of the sample that they leave, and by which samples are above.
-use mathlib.Core.Path.{_≡_, refl, ap, ap₂, sym, _∙_}
-use mathlib.Core.Bool.{Bool, true, false, _&&_, xor, and-true}
+use mathlib.Core.Path.{_≡_, refl, ap, ap₂, sym, _∙_, fun-ext}
+use mathlib.Core.Bool.{Bool, true, false, _&&_, xor, and-true, and-false, false≢true}
 use Prim.Native.Nat.{ℕ, zero, suc, _+_, _*_, _-_, _/_, _%_, _^_, _<_, _≤_}
-use native.Mathlib.Nat.{mul-zero, add-zero, zero-add, mul-one, mul-comm, div-lt-iff-lt-mul}
+use native.Mathlib.Nat.{mul-zero, add-zero, zero-add, mul-one, mul-comm, le-div-iff-mul-le}
+use native.Mathlib.Decide.{decLt}
 use native.Mathlib.Omega.{arith}
 use lib.Dec.{eqb, ltb}
-use borrow.Author.Tests.{lt-ltb, ltb-true}
+use borrow.Author.Tests.{lt-ltb, le-ltb, ltb-true}
 use Rattle.laws.proofs.Tests.{both}
 use Rattle.grid.specs.Grid.{Size, sampleCount, site, coordinate, side, Kind, axes, along, otherEnd, fitsAlong, isThere, edgeCount, crossedFrom, crossed}
 use Rattle.grid.proofs.Sites.{choose, site-add, site-of, site-small, coordinate-site, below-x, below-y, below-z}
@@ -82,15 +83,24 @@ module _ (k : Kind) (n : Size) (px : 0 < n .nx) (py : 0 < n .ny) (above other : 
       (ltb-true _ _ (q .1)) in
       rw (site-add n (coordinate n 0 s) (coordinate n 1 s) (coordinate n 2 s) (along d 0) (along d 1) (along d 2), site-of n s) at r
 
-  crossed-same : (s d : ℕ) → s < sampleCount n → crossedFrom k n above s d ≡ crossedFrom k n other s d
-  unfolding crossedFrom
-  crossed-same s d h = go (isThere n s d) refl
-    where
-      go : (b : Bool) → isThere n s d ≡ b → (b && xor (above s) (above (otherEnd n s d))) ≡ (b && xor (other s) (other (otherEnd n s d)))
-      go true t = ap₂ xor (same s h) (same (otherEnd n s d) (there-small s d h t))
-      go false t = refl
+  -- no edge leaves a sample beyond the grid
+  beyond : (s d : ℕ) → sampleCount n ≤ s → isThere n s d ≡ false
+  unfolding isThere fitsAlong coordinate side
+  beyond s d h =
+      let a : n .nz * n .ny * n .nx ≤ s = rw (mul-comm (n .nz) (n .ny), mul-comm (n .ny * n .nz) (n .nx)) h in
+      let b : n .nz ≤ s / n .nx / n .ny = le-div-iff-mul-le py .1 (le-div-iff-mul-le px .1 a) in
+      rw (le-ltb (s / n .nx / n .ny + along d 2) (n .nz) (omega arith), and-false, and-false)
 
-  pub crossed-cong : 0 < k .many → (e : ℕ) → e < edgeCount k n → crossed k n above e ≡ crossed k n other e
+  crossed-same : (s d : ℕ) → crossedFrom k n above s d ≡ crossedFrom k n other s d
+  unfolding crossedFrom
+  crossed-same s d = go (isThere n s d) refl (decLt s (sampleCount n))
+    where
+      go : (b : Bool) → isThere n s d ≡ b → Dec (s < sampleCount n)
+          → (b && xor (above s) (above (otherEnd n s d))) ≡ (b && xor (other s) (other (otherEnd n s d)))
+      go true t (yes h) = ap₂ xor (same s h) (same (otherEnd n s d) (there-small s d h t))
+      go true t (no h) = absurd (false≢true (sym (beyond s d (omega arith)) ∙ t))
+      go false t d = refl
+
+  pub crossed-cong : crossed k n above ≡ crossed k n other
   unfolding crossed
-  crossed-cong pk e h =
-      crossed-same (e / k .many) (k .direction (e % k .many)) (div-lt-iff-lt-mul pk .1 (rw (mul-comm (sampleCount n) (k .many)) h))
+  crossed-cong = fun-ext (λ e. crossed-same (e / k .many) (k .direction (e % k .many)))

@@ -2,3 +2,6 @@
 pub mod Digits
 pub mod Sites
 pub mod Crossings
+pub mod Same
+pub mod Points
+pub mod Edges

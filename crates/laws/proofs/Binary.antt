@@ -2,7 +2,7 @@
 use mathlib.Core.Path.{_≡_, refl}
 use mathlib.Core.List.{List, [], _∷_}
 use mathlib.Core.Bool.{Bool, true, false}
-use Prim.Native.Nat.{ℕ, zero, suc, _+_, _*_, _/_, _%_, _^_, _<_}
+use Prim.Native.Nat.{ℕ, zero, suc, _+_, _*_, _/_, _%_, _^_, _<_, _≤_}
 use native.Mathlib.Nat.{pow-suc}
 use native.Mathlib.Omega.{arith}
 use lib.Dec.{eqb}
@@ -29,3 +29,7 @@ unfolding bits bit
 bit-of-bits [] i l = absurd (omega arith)
 bit-of-bits (b ∷ bs) zero l = low b (bits bs)
 bit-of-bits (b ∷ bs) (suc i) l = rw (rest b (bits bs)) (bit-of-bits bs i (omega arith))
+
+pub bit-le : (b : Bool) → one-if b ≤ 1
+bit-le true = omega arith
+bit-le false = omega arith

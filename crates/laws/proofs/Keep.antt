@@ -1,5 +1,5 @@
 -- The numbers below n that pass a test, and the rank of each among them: how many that pass stand below it.
-use mathlib.Core.Path.{_≡_, refl, ap, _∙_}
+use mathlib.Core.Path.{_≡_, refl, ap, sym, _∙_}
 use mathlib.Core.List.{List, [], _∷_, _++_}
 use mathlib.Core.Bool.{Bool, true, false, cond}
 use Prim.Native.Nat.{ℕ, zero, suc, _+_, _<_, _≤_}
@@ -56,3 +56,26 @@ at-rank (suc n) e p l h = go (decLt e n) (λ l′. at-rank n e p l′ h)
         let q : e ≡ n = omega arith in
         let t : p n ≡ true = rw q at h in
         rw (t, q) (getD-at (keepTo n p) n [] 0 (countTo n p) (length-keep n p))
+
+-- a number below n that passes and has i that pass below it
+pub record Ranked (n i : ℕ) (p : ℕ → Bool) (e : ℕ) : Type 0 where
+  pub small : e < n
+  pub passes : p e ≡ true
+  pub rank : countTo e p ≡ i
+
+-- each place of the list holds the number of that rank
+pub kept-at : (n i : ℕ) (p : ℕ → Bool) → i < countTo n p → Ranked n i p (getD (keepTo n p) i 0)
+unfolding keepTo joinTo countTo sumTo
+kept-at zero i p l = absurd (omega arith)
+kept-at (suc n) i p l = go (decLt i (countTo n p)) (λ l′. kept-at n i p l′) (p n) refl
+  where
+    go : Dec (i < countTo n p) → (i < countTo n p → Ranked n i p (getD (keepTo n p) i 0)) → (b : Bool) → p n ≡ b
+        → Ranked (suc n) i p (getD (keepTo n p ++ cond b (n ∷ []) []) i 0)
+    go (yes l′) below b e =
+        let r = below l′ in
+        rw (List·getD-append (keepTo n p) (cond b (n ∷ []) []) 0 i (omega (arith, length-keep n p)))
+        (record { small = omega (arith, r .small); passes = r .passes; rank = r .rank })
+    go (no ge) below true e =
+        let q : i ≡ countTo n p = omega (arith, l, count-step n p, ap one-if e) in
+        rw (getD-at (keepTo n p) n [] 0 i (length-keep n p ∙ sym q)) (record { small = omega arith; passes = e; rank = sym q })
+    go (no ge) below false e = absurd (omega (arith, l, count-step n p, ap one-if e))

@@ -41,7 +41,7 @@ keep-cong n p q h =
 -- a range in two parts
 pub sum-split : (m n : ℕ) (f : ℕ → ℕ) → sumTo (m + n) f ≡ sumTo m f + sumTo n (λ i. f (m + i))
 unfolding sumTo
-sum-split m zero f = rw add-zero (omega arith)
+sum-split m zero f = rw (add-zero m) (omega arith)
 sum-split m (suc n) f = rw add-suc (omega (arith, sum-split m n f))
 
 pub join-split : {A : Type 0} (m n : ℕ) (f : ℕ → List A) → joinTo (m + n) f ≡ joinTo m f ++ joinTo n (λ i. f (m + i))
