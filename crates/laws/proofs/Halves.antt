@@ -1,10 +1,10 @@
 -- A number's bits, read off as it is halved again and again.
 use mathlib.Core.Path.{_≡_, refl, ap, sym, _∙_}
-use mathlib.Core.List.{List, [], _∷_}
+use mathlib.Core.List.{List, [], _∷_, _++_}
 use mathlib.Core.Bool.{Bool, true, false}
-use Prim.Native.Nat.{ℕ, zero, suc, _+_, _*_, _/_, _%_, _<_}
+use Prim.Native.Nat.{ℕ, zero, suc, _+_, _*_, _/_, _%_, _^_, _<_}
 use native.Mathlib.Numerals.{add-one}
-use native.Mathlib.Nat.{add-zero, add-assoc, zero-add}
+use native.Mathlib.Nat.{add-zero, zero-add, suc-add, one-mul, mul-assoc, mul-comm, pow-suc}
 use native.Mathlib.Omega.{arith}
 use lib.Dec.{eqb}
 use lib.ListN.{length, getD}
@@ -47,3 +47,19 @@ pub bit-of-zero : (i : ℕ) → bit 0 i ≡ false
 unfolding bit
 bit-of-zero zero = refl
 bit-of-zero (suc i) = bit-of-zero i
+
+-- values in two parts, and the mask of two parts
+pub values-append : (f : ℕ → Bool) (x m n : ℕ) → valuesFrom f x (m + n) ≡ valuesFrom f x m ++ valuesFrom f (x + m) n
+unfolding valuesFrom
+values-append f x zero n = rw (zero-add n, add-zero x)
+values-append f x (suc m) n =
+    let e : x + 1 + m ≡ x + suc m = omega arith in
+    rw (suc-add m n) (ap (λ bs. f x ∷ bs) (rw (← e) (values-append f (x + 1) m n)))
+
+pub bits-append : (bs cs : List Bool) → bits (bs ++ cs) ≡ bits bs + 2 ^ length bs * bits cs
+unfolding bits
+bits-append [] cs = omega (arith, one-mul (bits cs))
+bits-append (b ∷ bs) cs =
+    let twice : 2 ^ suc (length bs) * bits cs ≡ 2 * (2 ^ length bs * bits cs)
+    = rw (pow-suc 2 (length bs), mul-comm (2 ^ length bs) 2) (mul-assoc 2 (2 ^ length bs) (bits cs)) in
+    omega (arith, bits-append bs cs)

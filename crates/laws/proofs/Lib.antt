@@ -7,6 +7,7 @@ pub mod Sums
 pub mod Rearranged
 pub mod Binary
 pub mod Halves
+pub mod Words
 pub mod Rooms
 pub mod Writes
 pub mod Sides

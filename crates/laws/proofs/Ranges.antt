@@ -3,6 +3,7 @@ use mathlib.Core.Path.{_≡_, refl, ap, ap₂, sym, _∙_}
 use mathlib.Core.List.{List, [], _∷_, _++_, map, flatMap, append-assoc, append-nil, map-append}
 use mathlib.Core.Bool.{Bool, true, false, cond}
 use Prim.Native.Nat.{ℕ, zero, suc, _+_, _*_, _<_, _≤_}
+use native.Mathlib.Decide.{decLt}
 use native.Mathlib.Nat.{mul-suc, mul-zero, add-zero, add-suc, add-assoc}
 use native.Mathlib.Numerals.{add-one}
 use native.Mathlib.Omega.{arith}
@@ -84,3 +85,22 @@ pub flat-join : {A B : Type 0} (g : A → List B) (n : ℕ) (f : ℕ → List A)
 unfolding joinTo flatMap
 flat-join g zero f = refl
 flat-join g (suc n) f = flat-append g (joinTo n f) (f n) ∙ ap (λ a. a ++ flatMap g (f n)) (flat-join g n f)
+
+-- a stretch of the range that adds nothing
+pub sum-quiet : (x y : ℕ) (f : ℕ → ℕ) → x ≤ y → ((i : ℕ) → x ≤ i → i < y → f i ≡ 0) → sumTo y f ≡ sumTo x f
+unfolding sumTo
+sum-quiet x zero f h q = let e : x ≡ 0 = omega arith in rw e
+sum-quiet x (suc y) f h q = go (decLt y x) (λ l. sum-quiet x y f l (λ i a b. q i a (omega arith)))
+  where
+    go : Dec (y < x) → (x ≤ y → sumTo y f ≡ sumTo x f) → sumTo y f + f y ≡ sumTo x f
+    go (yes l) below = let e : x ≡ suc y = omega arith in rw e
+    go (no ge) below = omega (arith, below (omega arith), q y (omega arith) (omega arith))
+
+pub join-quiet : {A : Type 0} (x y : ℕ) (f : ℕ → List A) → x ≤ y → ((i : ℕ) → x ≤ i → i < y → f i ≡ []) → joinTo y f ≡ joinTo x f
+unfolding joinTo
+join-quiet x zero f h q = let e : x ≡ 0 = omega arith in rw e
+join-quiet x (suc y) f h q = go (decLt y x) (λ l. join-quiet x y f l (λ i a b. q i a (omega arith)))
+  where
+    go : Dec (y < x) → (x ≤ y → joinTo y f ≡ joinTo x f) → joinTo y f ++ f y ≡ joinTo x f
+    go (yes l) below = let e : x ≡ suc y = omega arith in rw e
+    go (no ge) below = rw (q y (omega arith) (omega arith), below (omega arith)) (append-nil (joinTo x f))

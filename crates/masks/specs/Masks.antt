@@ -2,7 +2,7 @@
 use mathlib.Core.Path.{_≡_}
 use mathlib.Core.List.{List}
 use mathlib.Core.Bool.{Bool}
-use Prim.Native.Nat.{ℕ, _+_, _*_, _/_, _%_, _<_}
+use Prim.Native.Nat.{ℕ, _+_, _*_, _-_, _/_, _%_, _<_}
 use lib.ListN.{getD}
 use Rattle.laws.specs.Bits.{bits, bit, valuesFrom}
 use Rattle.grid.specs.Grid.{isAboveGrey}
@@ -11,9 +11,13 @@ use Rattle.grid.specs.Grid.{isAboveGrey}
 unfoldable pub rowAbove : ℕ → List ℕ → ℕ → ℕ → Bool
 rowAbove grey samples start x = isAboveGrey grey samples (start + x)
 
+-- the mask of values from x on, up to n
+unfoldable pub maskFrom : (ℕ → Bool) → ℕ → ℕ → ℕ
+maskFrom f x n = bits (valuesFrom f x (n - x))
+
 -- the mask of the row of nx samples that starts there
 unfoldable pub rowMask : ℕ → List ℕ → ℕ → ℕ → ℕ
-rowMask grey samples start nx = bits (valuesFrom (rowAbove grey samples start) 0 nx)
+rowMask grey samples start nx = maskFrom (rowAbove grey samples start) 0 nx
 
 -- is sample s above, by its row's mask
 unfoldable pub maskAbove : ℕ → List ℕ → ℕ → Bool

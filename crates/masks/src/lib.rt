@@ -4,13 +4,45 @@ ghost use Prim.Native.Nat.{_+_, _*_, _<_, _≤_};
 ghost use lib.Dec.{leb};
 ghost use lib.ListN.{length};
 ghost use Rattle.laws.specs.Range.{one-if};
-ghost use Rattle.masks.specs.Masks.{rowMask, Masked};
+ghost use Rattle.masks.specs.Masks.{rowAbove, maskFrom, rowMask, Masked};
 
 // 1 if the sample is above, else 0.
 fn above_bit(sample: u16, grey: u16) -> u64
-    ensures { λ r. ⌜ r ≡ one-if (leb grey sample) ⌝ }
+    ensures { λ r. ⌜ (r ≡ one-if (leb grey sample)) × (r ≤ 1) ⌝ }
 {
     if grey <= sample { 1 } else { 0 }
+}
+
+// The mask of two samples.
+fn pair_mask(samples: &[u16], at: usize, grey: u16) -> u64
+    requires { ⌜ at + 2 ≤ length (now samples) ⌝ }
+    ensures { λ r. ⌜ (r ≡ rowMask grey (now (samples .entry)) at 2) × (r < 4) ⌝ }
+{
+    above_bit(samples[at], grey) + 2 * above_bit(samples[at + 1], grey)
+}
+
+// The mask of eight samples. Their bits are put together side by side, so that none waits for another.
+fn eight_mask(samples: &[u16], at: usize, grey: u16) -> u64
+    requires { ⌜ at + 8 ≤ length (now samples) ⌝ }
+    ensures { λ r. ⌜ (r ≡ rowMask grey (now (samples .entry)) at 8) × (r < 256) ⌝ }
+{
+    let low = pair_mask(samples, at, grey) + 4 * pair_mask(samples, at + 2, grey);
+    let high = pair_mask(samples, at + 4, grey) + 4 * pair_mask(samples, at + 6, grey);
+    low + 16 * high
+}
+
+// The mask of a row's samples from `from` on: the few that are left over where a row is taken eight by eight.
+fn tail_mask(samples: &[u16], start: usize, from: usize, nx: usize, grey: u16) -> u64
+    requires { ⌜ (from ≤ nx) × (nx ≤ 64) × (start + nx ≤ length (now samples)) ⌝ }
+    ensures { λ r. ⌜ r ≡ maskFrom (rowAbove grey (now (samples .entry)) start) from nx ⌝ }
+{
+    let mut mask: u64 = 0;
+    let mut x = nx;
+    while from < x {
+        x -= 1;
+        mask = 2 * mask + above_bit(samples[start + x], grey);
+    }
+    mask
 }
 
 // The mask of the row of nx samples that starts at `start`.
@@ -18,11 +50,13 @@ fn row_mask(samples: &[u16], start: usize, nx: usize, grey: u16) -> u64
     requires { ⌜ (nx ≤ 64) × (start + nx ≤ length (now samples)) ⌝ }
     ensures { λ r. ⌜ r ≡ rowMask grey (now (samples .entry)) start nx ⌝ }
 {
-    let mut mask: u64 = 0;
-    let mut x = nx;
-    while 0 < x {
-        x -= 1;
-        mask = 2 * mask + above_bit(samples[start + x], grey);
+    let mut left = nx / 8;
+    let mut x = 8 * left;
+    let mut mask = tail_mask(samples, start, x, nx, grey);
+    while 0 < left {
+        left -= 1;
+        x -= 8;
+        mask = 256 * mask + eight_mask(samples, start + x, grey);
     }
     mask
 }

@@ -5,6 +5,26 @@ mod declared {
     unsafe extern "C" {
         pub fn tholbrina_case_count(case: u8) -> u8;
         pub fn tholbrina_case_edge(case: u8, place: u32) -> u8;
+        pub fn tholbrina_extract(
+            nx: u32,
+            ny: u32,
+            nz: u32,
+            grey: u16,
+            samples: *const u16,
+            samples_len: usize,
+            points: *mut u32,
+            points_len: usize,
+            edges: *mut u32,
+            edges_len: usize,
+            marks: *mut u8,
+            marks_len: usize,
+            triangles: *mut u32,
+            triangles_len: usize,
+            work: *mut u32,
+            work_len: usize,
+            point_count: *mut u32,
+            triangle_count: *mut u32,
+        ) -> u32;
     }
 }
 
@@ -16,4 +36,42 @@ pub fn case_count(case: u8) -> u8 {
 pub fn case_edge(case: u8, place: u32) -> u8 {
     // SAFETY: the function takes and returns numbers by value and has no requirement.
     unsafe { declared::tholbrina_case_edge(case, place) }
+}
+
+#[allow(clippy::too_many_arguments)]
+pub fn extract(
+    [nx, ny, nz]: [u32; 3],
+    grey: u16,
+    samples: &[u16],
+    points: &mut [u32],
+    edges: &mut [u32],
+    marks: &mut [u8],
+    triangles: &mut [u32],
+    work: &mut [u32],
+    point_count: &mut u32,
+    triangle_count: &mut u32,
+) -> u32 {
+    // SAFETY: each slice is lent for the call with its own length, the mutable ones are all different, and the function has no requirement.
+    unsafe {
+        declared::tholbrina_extract(
+            nx,
+            ny,
+            nz,
+            grey,
+            samples.as_ptr(),
+            samples.len(),
+            points.as_mut_ptr(),
+            points.len(),
+            edges.as_mut_ptr(),
+            edges.len(),
+            marks.as_mut_ptr(),
+            marks.len(),
+            triangles.as_mut_ptr(),
+            triangles.len(),
+            work.as_mut_ptr(),
+            work.len(),
+            point_count,
+            triangle_count,
+        )
+    }
 }

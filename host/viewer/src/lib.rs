@@ -12,3 +12,43 @@ pub fn case_count(case: u8) -> u8 {
 pub fn case_edge(case: u8, place: u32) -> u8 {
     c::case_edge(case, place)
 }
+
+/// What the extractor answers: number 0 and the two counts if granted, else the refusal's number and zero counts.
+#[derive(Clone, Copy, PartialEq, Eq, Debug)]
+pub struct Extracted {
+    pub number: u32,
+    pub points: u32,
+    pub triangles: u32,
+}
+
+/// The rooms that the extractor fills, and its work room of exactly three numbers a sample.
+pub struct Rooms<'a> {
+    pub points: &'a mut [u32],
+    pub edges: &'a mut [u32],
+    pub marks: &'a mut [u8],
+    pub triangles: &'a mut [u32],
+    pub work: &'a mut [u32],
+}
+
+/// The mesh of a grid at one grey value, into lent rooms.
+pub fn extract(sides: [u32; 3], grey: u16, samples: &[u16], rooms: Rooms<'_>) -> Extracted {
+    let mut points = 0;
+    let mut triangles = 0;
+    let number = c::extract(
+        sides,
+        grey,
+        samples,
+        rooms.points,
+        rooms.edges,
+        rooms.marks,
+        rooms.triangles,
+        rooms.work,
+        &mut points,
+        &mut triangles,
+    );
+    Extracted {
+        number,
+        points,
+        triangles,
+    }
+}

@@ -1,75 +1,72 @@
--- `masks::row_mask` meets its contract. The row is walked from its end: the mask so far is that of the samples from x on. Assumes nothing.
-use mathlib.Core.Path.{_≡_, sym, _∙_}
-use Prim.Native.Nat.{_+_, _*_, _-_, _≤_}
-use native.Mathlib.Nat.{sub-zero}
+-- `masks::row_mask` meets its contract. The row is taken eight by eight from its end, after what is left over: the mask so far is that of the
+-- samples from x on. Assumes nothing.
+use mathlib.Core.Path.{_≡_, _∙_}
+use Prim.Native.Nat.{_*_, _-_, _≤_}
 use native.Mathlib.Omega.{arith}
-use borrow.Author.Needs.{needs}
-use lib.ListN.{length}
-use Rattle.laws.specs.Bits.{bits, valuesFrom}
-use Rattle.laws.proofs.Binary.{bit-le}
-use Rattle.grid.specs.Grid.{isAboveGrey}
-use Rattle.masks.specs.Masks.{rowAbove, rowMask}
-use Rattle.masks.proofs.Rows.{mask-small, mask-more, mask-none}
+use Rattle.masks.specs.Masks.{rowAbove, maskFrom, rowMask}
+use Rattle.masks.proofs.Rows.{mask-small, mask-eight, eight-of-row}
 use Rattle.masks.proofs.row_mask.Statement.{statement}
 use Rattle.masks.proofs.row_mask.Tie as tie
 
 abbrev Inv-loop : tie.InvT-loop
-Inv-loop samples start nx grey mask₀ x₀ mask x = (x ≤ nx) × (mask ≡ bits (valuesFrom (rowAbove grey samples start) x (nx - x)))
+Inv-loop samples start nx grey left₀ x₀ mask₀ left x mask = (x ≡ 8 * left) × (x ≤ nx) × (mask ≡ maskFrom (rowAbove grey samples start) x nx)
 
 abbrev μ-loop : tie.MeasureT-loop
-μ-loop samples start nx grey mask₀ x₀ mask x = x
+μ-loop samples start nx grey left₀ x₀ mask₀ left x mask = left
+
+mul-x : tie.Need-mul-x Inv-loop μ-loop
+mul-x c = omega arith
+
+tail-mask-requires : tie.Need-tail-mask-requires Inv-loop μ-loop
+tail-mask-requires c κs = omega arith
 
 loop-holds : tie.Need-loop-holds Inv-loop μ-loop
-loop-holds c = (omega arith, sym (mask-none _ (c .before .args .nx)))
+loop-holds c = (omega arith, omega arith, c .tail-mask .ensures)
+
+sub-left : tie.Need-sub-left Inv-loop μ-loop
+sub-left c = omega arith
 
 sub-x : tie.Need-sub-x Inv-loop μ-loop
-sub-x c = search needs
+sub-x c = omega arith
 
 mul-mask : tie.Need-mul-mask Inv-loop μ-loop
 mul-mask c =
-    let a = c .before .before .before .args in
+    let a = c .before .before .before .before .args in
     let l = c .before .loop in
-    omega (arith, l .inv .1, mask-small (rowAbove (a .grey) (a .samples .now) (a .start)) (l .x) (a .nx - l .x) (omega arith))
+    omega (arith, l .inv .2, mask-small (rowAbove (a .grey) (a .samples .now) (a .start)) (l .x) (a .nx) 56 (omega arith))
 
-add-above-bit : tie.Need-add-above-bit Inv-loop μ-loop
-add-above-bit c = search needs
+add-eight-mask : tie.Need-add-eight-mask Inv-loop μ-loop
+add-eight-mask c = omega arith
 
-mul-above-bit : tie.Need-mul-above-bit Inv-loop μ-loop
-mul-above-bit c = omega arith
-
-shared-slice-read-above-bit : tie.Need-shared-slice-read-above-bit Inv-loop μ-loop
-shared-slice-read-above-bit c = search needs
-
-above-bit-requires : tie.Need-above-bit-requires Inv-loop μ-loop
-above-bit-requires c κs = search needs
+eight-mask-requires : tie.Need-eight-mask-requires Inv-loop μ-loop
+eight-mask-requires c κs = omega arith
 
 add-mask : tie.Need-add-mask Inv-loop μ-loop
-unfolding rowAbove isAboveGrey
 add-mask c =
     let a = c .before .before .before .before .before .args in
-    let l = c .before .before .before .loop in
+    let l = c .before .before .loop in
     omega (
       arith,
-      l .inv .1,
-      c .above-bit .ensures,
-      bit-le (rowAbove (a .grey) (a .samples .now) (a .start) (l .x - 1)),
-      mask-small (rowAbove (a .grey) (a .samples .now) (a .start)) (l .x) (a .nx - l .x) (omega arith),
+      l .inv .2,
+      c .eight-mask .ensures .1,
+      mask-small (rowAbove (a .grey) (a .samples .now) (a .start)) (l .x) (a .nx) 56 (omega arith),
     )
 
 loop-less : tie.Need-loop-less Inv-loop μ-loop
-loop-less c = search needs
+loop-less c = omega arith
 
 loop-again : tie.Need-loop-again Inv-loop μ-loop
-unfolding rowAbove isAboveGrey
 loop-again c =
     let a = c .before .before .before .before .before .args in
-    let l = c .before .before .before .loop in (
+    let l = c .before .before .loop in (
+      omega arith,
       omega arith,
       omega (
         arith,
-        l .inv .1,
-        c .above-bit .ensures,
-        mask-more (rowAbove (a .grey) (a .samples .now) (a .start)) (l .x) (a .nx) (omega arith) (l .inv .0),
+        l .inv .2,
+        c .eight-mask .ensures .0,
+        eight-of-row (a .grey) (a .samples .now) (a .start) (l .x - 8),
+        mask-eight (rowAbove (a .grey) (a .samples .now) (a .start)) (l .x) (a .nx) (omega arith) (omega arith),
       ),
     )
 
@@ -78,7 +75,7 @@ unfolding rowMask
 returns c =
     let l = c .before .loop in
     let z : l .x ≡ 0 = omega arith in
-    l .inv .1 ∙ rw (z, sub-zero)
+    l .inv .2 ∙ rw z
 
 pub row-mask-spec : {M : Type 1} → statement M
 row-mask-spec =
@@ -86,13 +83,14 @@ row-mask-spec =
     (tie.spec
     Inv-loop
     μ-loop
+    mul-x
+    tail-mask-requires
     loop-holds
+    sub-left
     sub-x
     mul-mask
-    add-above-bit
-    mul-above-bit
-    shared-slice-read-above-bit
-    above-bit-requires
+    add-eight-mask
+    eight-mask-requires
     add-mask
     loop-less
     loop-again

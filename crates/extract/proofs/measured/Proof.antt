@@ -1,0 +1,257 @@
+-- `extract::measured` meets its contract: the three ways out. Assumes nothing.
+use mathlib.Core.Path.{_≡_, ap, sym, _∙_}
+use native.Mathlib.Omega.{arith}
+use Prim.Native.Nat.{_/_, min}
+use mathlib.Core.Bool.{false}
+use lib.Dec.{ltb}
+use lib.ListN.{length, replicate, length-replicate}
+use Rattle.grid.specs.Limits.{mostPoints}
+use Rattle.extract.specs.Outcome.{Rooms}
+use Rattle.extract.specs.Promise.{rooms}
+use Rattle.extract.proofs.Ways.{rows-most, too-many-points, too-many-triangles, all-granted, rooms-hold, triangles-hold}
+use borrow.Author.Needs.{needs}
+use Rattle.extract.proofs.measured.Statement.{statement}
+use Rattle.extract.proofs.measured.Tie as tie
+
+-- the places on the way
+abbrev begun : tie.After-fill → tie.Start
+begun c = c .before .before .before .before .before .before .before .before
+
+abbrev masked : tie.After-number → tie.After-fill
+masked c = c .before .before .before .before
+
+abbrev numbered : tie.After-exceeds → tie.After-number
+numbered c = c .before .before .before .before .before
+
+abbrev counted : tie.After-exceeds2 → tie.After-exceeds
+counted c = c .before .before .before .before
+
+abbrev placing : tie.After-place-arg3 → tie.Else2
+placing c = c .before .before .before .before
+
+abbrev placed : tie.After-write-arg2 → tie.After-place
+placed c = c .before .before .before .before .before .before .before .before .before
+
+abbrev written : tie.After-clear3 → tie.After-write
+written c = c .before .before .before .before
+
+-- the rooms as they were lent
+abbrev lent : tie.Start → Rooms
+lent s =
+    rooms (s .args .points .now) (s .args .edges .now) (s .args .marks .now) (s .args .triangles .now) (s .args .work .now)
+
+-- the room for points, and the length of the work room, by the definition's words
+room-is : (c : tie.After-exceeds)
+    → let r = lent (begun (masked (numbered c))) in
+    c .before .least2 .result ≡ min (length (r .points) / 3) (min (length (r .edges)) (length (r .marks)))
+room-is c =
+    let r = lent (begun (masked (numbered c))) in
+    c .before .least2 .ensures ∙ ap (min (length (r .points) / 3)) (c .before .before .least .ensures)
+
+work-kept : (c : tie.After-number) → length (c .number .last .1 .1 .1 .1 .0) ≡ length (lent (begun (masked c)) .work)
+work-kept c = c .number .ensures .1 .whole ∙ sym (begun (masked c) .pre .1 .1)
+
+-- points and triangles within their rooms
+points-fit : (c : tie.After-exceeds2) → ltb (min mostPoints (counted c .before .least2 .result)) (numbered (counted c) .number .result) ≡ false
+points-fit c = sym (counted c .exceeds .ensures) ∙ c .before .before .before .if1 .left
+
+mul-fill : tie.Need-mul-fill
+mul-fill c =
+    let s = c .before .before .before .before .before .before in
+    omega (arith, rows-most (s .args .nx) (s .args .ny) (s .args .nz) (s .pre .0))
+
+slice-aggregate-fill : tie.Need-slice-aggregate-fill
+slice-aggregate-fill c = search needs
+
+fill-requires : tie.Need-fill-requires
+fill-requires c κs =
+    let s = c .before .before .before .before .before .before .before in (
+      s .pre .0 .most-x,
+      rows-most (s .args .nx) (s .args .ny) (s .args .nz) (s .pre .0),
+      s .pre .1 .0,
+      omega (arith, s .pre .0 .least-x),
+    )
+
+number-requires : tie.Need-number-requires
+number-requires c κs = search needs
+
+least-requires : tie.Need-least-requires
+least-requires c κs = search needs
+
+least-requires-2 : tie.Need-least-requires-2
+least-requires-2 c κs = search needs
+
+exceeds-requires : tie.Need-exceeds-requires
+exceeds-requires c κs = search needs
+
+clear-requires : tie.Need-clear-requires
+clear-requires c κs = search needs
+
+refused-requires : tie.Need-refused-requires
+refused-requires c κs = search needs
+
+same-length : tie.Need-same-length
+same-length c = search needs
+
+returns : tie.Need-returns
+returns c =
+    let clear = c .before .before .before in
+    let tests = clear .before .before .before in
+    let n = numbered tests in
+    let f = masked n in
+    let s = begun f in
+    let a = s .args in
+    rw (c .refused .ensures .0, c .refused .ensures .1, c .refused .ensures .2)
+    (too-many-points (a .nx) (a .ny) (a .nz) (a .grey) (a .samples .now) (f .fill .last .1 .1 .1 .1 .0) (s .pre .0) (f .fill .ensures) (lent s)
+    (n .number .result)
+    (tests .before .least2 .result)
+    (clear .clear .last .0)
+    (n .number .ensures .0)
+    (room-is tests)
+    (sym (tests .exceeds .ensures) ∙ clear .before .before .if1 .taken)
+    (clear .clear .ensures ∙ ap (λ k. replicate k 0) (work-kept n)))
+
+count-requires : tie.Need-count-requires
+count-requires c κs = search needs
+
+exceeds-requires-2 : tie.Need-exceeds-requires-2
+exceeds-requires-2 c κs = search needs
+
+clear-requires-2 : tie.Need-clear-requires-2
+clear-requires-2 c κs = search needs
+
+refused-requires-2 : tie.Need-refused-requires-2
+refused-requires-2 c κs = search needs
+
+same-length-2 : tie.Need-same-length-2
+same-length-2 c = search needs
+
+returns-2 : tie.Need-returns-2
+returns-2 c =
+    let clear = c .before .before .before in
+    let made = clear .before .before .before in
+    let tests = counted made in
+    let n = numbered tests in
+    let f = masked n in
+    let s = begun f in
+    let a = s .args in
+    rw (c .refused2 .ensures .0, c .refused2 .ensures .1, c .refused2 .ensures .2)
+    (too-many-triangles (a .nx) (a .ny) (a .nz) (a .grey) (a .samples .now) (f .fill .last .1 .1 .1 .1 .0) (s .pre .0) (f .fill .ensures) (lent s)
+    (n .number .result)
+    (made .before .count .result)
+    (tests .before .least2 .result)
+    (clear .clear2 .last .0)
+    (n .number .ensures .0)
+    (room-is tests)
+    (points-fit made)
+    (made .before .count .ensures)
+    (sym (made .exceeds2 .ensures) ∙ clear .before .before .if2 .taken)
+    (clear .clear2 .ensures ∙ ap (λ k. replicate k 0) (work-kept n)))
+
+place-requires : tie.Need-place-requires
+place-requires c κs =
+    let made = placing c .before in
+    let tests = counted made in
+    let n = numbered tests in
+    let f = masked n in
+    let s = begun f in
+    let a = s .args in
+    let hold = rooms-hold (a .nx) (a .ny) (a .nz) (a .grey) (a .samples .now) (f .fill .last .1 .1 .1 .1 .0) (s .pre .0) (f .fill .ensures)
+    (n .number .result) (tests .before .least2 .result) (length (a .points .now)) (length (a .edges .now)) (length (a .marks .now))
+    (n .number .ensures .0) (room-is tests) (points-fit made) in
+    (s .pre .0, (s .pre .1 .0, (f .fill .ensures, (hold .0, (hold .1, hold .2)))))
+
+write-requires : tie.Need-write-requires
+write-requires c κs =
+    let else = placing (placed c .before) in
+    let made = else .before in
+    let n = numbered (counted made) in
+    let f = masked n in
+    let s = begun f in
+    let a = s .args in (
+      s .pre .0,
+      (
+        n .number .ensures .1,
+        triangles-hold (a .nx) (a .ny) (a .nz) (a .grey) (a .samples .now) (f .fill .last .1 .1 .1 .1 .0) (s .pre .0) (f .fill .ensures)
+            (made .before .count .result) (length (a .triangles .now)) (made .before .count .ensures) (sym (made .exceeds2 .ensures) ∙ else .if2 .left),
+      ),
+    )
+
+clear-requires-3 : tie.Need-clear-requires-3
+clear-requires-3 c κs = search needs
+
+same-length-3 : tie.Need-same-length-3
+same-length-3 c = search needs
+
+same-length-4 : tie.Need-same-length-4
+same-length-4 c = search needs
+
+same-length-5 : tie.Need-same-length-5
+same-length-5 c = search needs
+
+same-length-6 : tie.Need-same-length-6
+same-length-6 c = search needs
+
+same-length-7 : tie.Need-same-length-7
+same-length-7 c =
+    let clear = c .before .before in
+    ap length (clear .clear3 .ensures) ∙ length-replicate _ 0 ∙ work-kept (numbered (counted (placing (placed (written clear .before) .before) .before)))
+
+returns-3 : tie.Need-returns-3
+returns-3 c =
+    let clear = c .before .before in
+    let write = written clear in
+    let place = placed (write .before) in
+    let else = placing (place .before) in
+    let made = else .before in
+    let tests = counted made in
+    let n = numbered tests in
+    let f = masked n in
+    let s = begun f in
+    let a = s .args in
+    all-granted (a .nx) (a .ny) (a .nz) (a .grey) (a .samples .now) (f .fill .last .1 .1 .1 .1 .0) (s .pre .0) (f .fill .ensures) (lent s)
+    (n .number .result)
+    (made .before .count .result)
+    (tests .before .least2 .result)
+    _
+    (n .number .ensures .0)
+    (room-is tests)
+    (points-fit made)
+    (made .before .count .ensures)
+    (sym (made .exceeds2 .ensures) ∙ else .if2 .left)
+    (place .place .ensures .0)
+    (place .place .ensures .1 .0)
+    (place .place .ensures .1 .1)
+    (write .write .ensures)
+    (clear .clear3 .ensures ∙ ap (λ k. replicate k 0) (work-kept n))
+
+pub measured-spec : {M : Type 1} → statement M
+measured-spec =
+    tie.close
+    (tie.spec
+    mul-fill
+    slice-aggregate-fill
+    fill-requires
+    number-requires
+    least-requires
+    least-requires-2
+    exceeds-requires
+    clear-requires
+    refused-requires
+    same-length
+    returns
+    count-requires
+    exceeds-requires-2
+    clear-requires-2
+    refused-requires-2
+    same-length-2
+    returns-2
+    place-requires
+    write-requires
+    clear-requires-3
+    same-length-3
+    same-length-4
+    same-length-5
+    same-length-6
+    same-length-7
+    returns-3)

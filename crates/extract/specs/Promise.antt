@@ -1,0 +1,22 @@
+-- What the call promises: that it leaves behind exactly the outcome that is defined.
+use mathlib.Core.Path.{_≡_}
+use mathlib.Core.List.{List}
+use Prim.Native.Nat.{ℕ}
+use Rattle.grid.specs.Work.{size}
+use Rattle.extract.specs.Outcome.{Rooms, Outcome, measured, extracted}
+
+abbrev pub rooms : List ℕ → List ℕ → List ℕ → List ℕ → List ℕ → Rooms
+rooms points edges marks triangles work = record { points = points; edges = edges; marks = marks; triangles = triangles; work = work }
+
+-- what was left behind, as one value
+abbrev pub left : ℕ → ℕ → ℕ → Rooms → Outcome
+left number pointCount triangleCount after =
+    record { number = number; pointCount = pointCount; triangleCount = triangleCount; rooms = after }
+
+-- a call on these rooms may leave this behind
+abbrev pub Extracts : ℕ → ℕ → ℕ → ℕ → List ℕ → Rooms → Outcome → Type 0
+Extracts nx ny nz grey samples before after = after ≡ extracted nx ny nz grey samples before
+
+-- the same, where sides and lengths are known to be right
+abbrev pub Measures : ℕ → ℕ → ℕ → ℕ → List ℕ → Rooms → Outcome → Type 0
+Measures nx ny nz grey samples before after = after ≡ measured (size nx ny nz) grey samples before

@@ -1,0 +1,143 @@
+// The extractor: a grid of samples and one grey value in, a mesh with numbered points out.
+ghost use mathlib.Core.Path.{_≡_};
+ghost use Prim.Native.Nat.{min};
+ghost use lib.Dec.{ltb};
+ghost use lib.ListN.{length};
+ghost use Rattle.grid.specs.Grid.{axes, sampleCount, edgeCount};
+ghost use Rattle.grid.specs.Work.{size, SidesFit};
+ghost use Rattle.extract.specs.Outcome.{sideFits, sidesFit};
+ghost use Rattle.extract.specs.Promise.{rooms, left, Extracts, Measures};
+use grid::limits::LEAST_SIDE;
+use grid::limits::MOST_POINTS;
+use grid::limits::MOST_SIDE;
+use grid::limits::MOST_TRIANGLES;
+
+// Number 0 and the two counts if granted, else the refusal's number and zero counts.
+pub struct Extracted {
+    pub number: u32,
+    pub points: u32,
+    pub triangles: u32,
+}
+
+fn side_fits(side: u32) -> bool
+    ensures { λ r. ⌜ r ≡ sideFits side ⌝ }
+{
+    if side < LEAST_SIDE {
+        return false;
+    }
+    side <= MOST_SIDE
+}
+
+fn sides_fit(nx: u32, ny: u32, nz: u32) -> bool
+    ensures { λ r. ⌜ r ≡ sidesFit nx ny nz ⌝ }
+{
+    if side_fits(nx) {
+        if side_fits(ny) {
+            return side_fits(nz);
+        }
+    }
+    false
+}
+
+// Are there more than the limit, or more than the room holds?
+fn exceeds(count: u32, most: u32, room: usize) -> bool
+    ensures { λ r. ⌜ r ≡ ltb (min most room) count ⌝ }
+{
+    if most < count {
+        return true;
+    }
+    room < count as usize
+}
+
+fn refused(number: u32) -> Extracted
+    ensures { λ r. ⌜ (r .number ≡ number) × (r .points ≡ 0) × (r .triangles ≡ 0) ⌝ }
+{
+    Extracted {
+        number,
+        points: 0,
+        triangles: 0,
+    }
+}
+
+// Points and triangles are counted before anything is written, so that a refusal leaves the rooms.
+fn measured(
+    nx: usize,
+    ny: usize,
+    nz: usize,
+    grey: u16,
+    samples: &[u16],
+    points: &mut [u32],
+    edges: &mut [u32],
+    marks: &mut [u8],
+    triangles: &mut [u32],
+    work: &mut [u32],
+) -> Extracted
+    requires { ⌜ SidesFit nx ny nz ⌝ }
+    requires { ⌜ length (now samples) ≡ sampleCount (size nx ny nz) ⌝ }
+    requires { ⌜ length (now work) ≡ edgeCount axes (size nx ny nz) ⌝ }
+    ensures { λ r. ⌜ Measures nx ny nz grey (now (samples .entry)) (rooms (now (points .entry)) (now (edges .entry)) (now (marks .entry)) (now (triangles .entry)) (now (work .entry))) (left (r .number) (r .points) (r .triangles) (rooms (now (points .exit)) (now (edges .exit)) (now (marks .exit)) (now (triangles .exit)) (now (work .exit)))) ⌝ }
+{
+    let mut masks = [0u64; 4096];
+    masks::fill(samples, nx, ny * nz, grey, &mut masks);
+    let found = points::number(nx, ny, nz, &masks, work);
+    let room = rooms::least(points.len() / 3, rooms::least(edges.len(), marks.len()));
+    if exceeds(found, MOST_POINTS, room) {
+        rooms::clear(work);
+        return refused(4);
+    }
+    let made = triangles::count(nx, ny, nz, &masks);
+    if exceeds(made, MOST_TRIANGLES, triangles.len() / 3) {
+        rooms::clear(work);
+        return refused(5);
+    }
+    points::place(nx, ny, nz, grey, samples, &masks, points, edges, marks);
+    triangles::write(nx, ny, nz, &masks, work, triangles);
+    rooms::clear(work);
+    Extracted {
+        number: 0,
+        points: found,
+        triangles: made,
+    }
+}
+
+// The mesh of a grid at one grey value, into lent rooms.
+pub fn extract(
+    nx: u32,
+    ny: u32,
+    nz: u32,
+    grey: u16,
+    samples: &[u16],
+    points: &mut [u32],
+    edges: &mut [u32],
+    marks: &mut [u8],
+    triangles: &mut [u32],
+    work: &mut [u32],
+) -> Extracted
+    ensures { λ r. ⌜ Extracts nx ny nz grey (now (samples .entry)) (rooms (now (points .entry)) (now (edges .entry)) (now (marks .entry)) (now (triangles .entry)) (now (work .entry))) (left (r .number) (r .points) (r .triangles) (rooms (now (points .exit)) (now (edges .exit)) (now (marks .exit)) (now (triangles .exit)) (now (work .exit)))) ⌝ }
+{
+    if !sides_fit(nx, ny, nz) {
+        return refused(1);
+    }
+    let x = nx as usize;
+    let y = ny as usize;
+    let z = nz as usize;
+    let count = x * (y * z);
+    if samples.len() != count {
+        return refused(2);
+    }
+    if work.len() != 3 * count {
+        return refused(3);
+    }
+    measured(
+        x,
+        y,
+        z,
+        grey,
+        samples,
+        points,
+        edges,
+        marks,
+        triangles,
+        work,
+    )
+}

@@ -1,0 +1,114 @@
+-- `points::places::place_edge` meets its contract. Assumes nothing.
+use mathlib.Core.Path.{_≡_, refl}
+use mathlib.Core.Bool.{true, false}
+use Prim.Native.Nat.{_+_}
+use native.Mathlib.Omega.{arith}
+use denote.Ref.{now}
+use borrow.Author.Needs.{needs}
+use borrow.Author.Tests.{not-true, not-false}
+use Rattle.points.specs.Rows.{sizeOf}
+use Rattle.points.specs.Places.{Rooms, rooms, Placeable}
+use Rattle.points.proofs.Placing.{offset-small, point-written}
+use Rattle.points.proofs.places.place_edge.Statement.{statement}
+use Rattle.points.proofs.places.place_edge.Tie as tie
+
+returns : tie.Need-returns
+returns c =
+    let a = c .before .before .before .before .before .args in
+    let uncrossed : a .cut ≡ false = not-true _ (c .if1 .taken) in
+    rw uncrossed (omega arith, refl)
+
+abbrev start : tie.Else1 → tie.Start
+start c = c .before .before .before .before .before
+
+-- past the test the edge is crossed, and its point can be placed
+crossed-here : (c : tie.Else1) → start c .args .cut ≡ true
+crossed-here c = not-false _ (c .if1 .left)
+
+able : (c : tie.Else1)
+    → let a = start c .args in
+    Placeable (now (a .samples)) (a .at .s) (a .edge .far) (a .n) (rooms (now (a .points)) (now (a .edges)) (now (a .marks)))
+able c = start c .pre .1 .1 .1 (crossed-here c)
+
+-- the rooms past the write
+abbrev past : tie.After-write-point → Rooms
+past c =
+    let last = c .write-point .last .1 .1 in
+    rooms (last .0) (last .1 .0) (last .1 .1 .0)
+
+add-other : tie.Need-add-other
+add-other c = omega (arith, able (c .before) .there)
+
+mul-offset : tie.Need-mul-offset
+mul-offset c = omega (arith, able (c .before) .there)
+
+shared-slice-read-offset : tie.Need-shared-slice-read-offset
+shared-slice-read-offset c = omega (arith, able (c .before .before) .there)
+
+mul-offset-2 : tie.Need-mul-offset-2
+mul-offset-2 c = omega (arith, able (c .before .before) .there)
+
+shared-slice-read-offset-2 : tie.Need-shared-slice-read-offset-2
+shared-slice-read-offset-2 c = able (c .before .before .before) .there
+
+offset-requires : tie.Need-offset-requires
+offset-requires c κs = able (c .before .before .before) .differ
+
+point-on-requires : tie.Need-point-on-requires
+point-on-requires c κs =
+    let s = start (c .before .before .before .before) in
+    let v0 = c .before .before .shared-slice-known2 .given (s .args .at .s) .fits in
+    let v1 = c .before .shared-slice-known3 .given (s .args .at .s + s .args .edge .far) .fits in
+    (s .pre .0, (s .pre .1 .0, rw (c .offset .ensures) (offset-small _ _ _ v0 v1 (s .fits .grey .fits))))
+
+write-point-requires : tie.Need-write-point-requires
+write-point-requires c κs = able (c .before .before .before .before .before .before .before .before) .room
+
+add-result : tie.Need-add-result
+add-result c =
+    let e = c .before .before .before .before .before .before .before .before .before .before .before .before .before .before .before in
+    omega (arith, able e .room .edges, start e)
+
+same-length : tie.Need-same-length
+same-length c = search needs
+
+same-length-2 : tie.Need-same-length-2
+same-length-2 c = search needs
+
+same-length-3 : tie.Need-same-length-3
+same-length-3 c = search needs
+
+returns-2 : tie.Need-returns-2
+returns-2 c =
+    let w = c .before .before .before .before .before .before in
+    let p = w .before .before .before .before in
+    let o = p .before in
+    let e = o .before .before .before .before in
+    let a = start e .args in
+    rw (crossed-here e) (
+      refl,
+      point-written (sizeOf (a .sides)) (a .grey) (now (a .samples)) (a .at .s) (a .edge .d) (a .edge .e) (a .edge .far) (a .n) (o .offset .result) (p .point-on .result) (rooms (now (a .points)) (now (a .edges)) (now (a .marks))) (past w)
+          (start e .pre .1 .1 .0)
+          (o .offset .ensures)
+          (p .point-on .ensures)
+          (w .write-point .ensures),
+    )
+
+pub place-edge-spec : {M : Type 1} → statement M
+place-edge-spec =
+    tie.close
+    (tie.spec
+    returns
+    add-other
+    mul-offset
+    shared-slice-read-offset
+    mul-offset-2
+    shared-slice-read-offset-2
+    offset-requires
+    point-on-requires
+    write-point-requires
+    add-result
+    same-length
+    same-length-2
+    same-length-3
+    returns-2)

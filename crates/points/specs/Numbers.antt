@@ -1,0 +1,39 @@
+-- The work room while the points are numbered.
+use mathlib.Core.Path.{_≡_}
+use mathlib.Core.List.{List}
+use mathlib.Core.Bool.{Bool, true, cond}
+use Prim.Native.Nat.{ℕ, _+_, _*_, _<_}
+use lib.ListN.{length, getD, set}
+use Rattle.laws.specs.Range.{one-if}
+use Rattle.grid.specs.Limits.{mostSide}
+use Rattle.grid.specs.Grid.{axes, edgeCount, crossed}
+use Rattle.grid.specs.Point.{number}
+use Rattle.masks.specs.Masks.{maskAbove}
+use Rattle.points.specs.declared.rows.Sides.{Sides}
+use Rattle.points.specs.declared.rows.Cuts.{Cuts}
+use Rattle.points.specs.Rows.{sizeOf}
+
+-- no grid has more edges
+abbrev pub mostEdges : ℕ
+mostEdges = 3 * (mostSide * (mostSide * mostSide))
+
+-- the next number past an edge, and the room with the edge's number in it: both change where the edge is crossed
+abbrev pub nextNumber : Bool → ℕ → ℕ
+nextNumber cut n = n + one-if cut
+
+abbrev pub withNumber : Bool → ℕ → ℕ → List ℕ → List ℕ
+withNumber cut e n work = cond cut (set work e n) work
+
+-- the same past the three edges that leave a sample, of which e is the first
+pub record SampleNumbered (cuts : Cuts) (e n next : ℕ) (before after : List ℕ) : Type 0 where
+  pub counted : next ≡ nextNumber (cuts .z) (nextNumber (cuts .y) (nextNumber (cuts .x) n))
+  pub written : after
+      ≡ withNumber (cuts .z) (e + 2) (nextNumber (cuts .y) (nextNumber (cuts .x) n))
+      (withNumber (cuts .y) (e + 1) (nextNumber (cuts .x) n) (withNumber (cuts .x) e n before))
+
+-- the room holds the numbers of the points on the edges below e, and there are so many of them
+pub record NumberedTo (sides : Sides) (masks : List ℕ) (e count : ℕ) (work : List ℕ) : Type 0 where
+  pub whole : length work ≡ edgeCount axes (sizeOf sides)
+  pub counted : count ≡ number axes (sizeOf sides) (maskAbove (sides .nx) masks) e
+  pub ranks : (i : ℕ) → i < e → crossed axes (sizeOf sides) (maskAbove (sides .nx) masks) i ≡ true
+      → getD work i 0 ≡ number axes (sizeOf sides) (maskAbove (sides .nx) masks) i

@@ -1,0 +1,65 @@
+-- The rows of a grid as masks, while a walk passes their samples one by one.
+use mathlib.Core.Path.{_≡_}
+use mathlib.Core.Logic.{_⊎_}
+use mathlib.Core.List.{List}
+use mathlib.Core.Bool.{Bool, true, cond, _&&_, xor}
+use Prim.Native.Nat.{ℕ, _+_, _*_, _/_, _%_, _<_}
+use lib.Dec.{eqb, ltb}
+use lib.ListN.{getD}
+use Rattle.laws.specs.Bits.{bit, halved}
+use Rattle.grid.specs.Grid.{Size}
+use Rattle.grid.specs.Work.{size, SidesFit}
+use Rattle.points.specs.declared.rows.Sides.{Sides}
+use Rattle.points.specs.declared.rows.Row.{Row}
+use Rattle.points.specs.declared.rows.Cuts.{Cuts}
+
+-- the bits below nx are all set
+abbrev pub AllSet : ℕ → ℕ → Type 0
+AllSet nx mask = (x : ℕ) → x < nx → bit mask x ≡ true
+
+-- the sides are within the limits, and the full mask is theirs
+pub record Ready (sides : Sides) : Type 0 where
+  pub fit : SidesFit (sides .nx) (sides .ny) (sides .nz)
+  pub full : AllSet (sides .nx) (sides .full)
+
+abbrev pub sizeOf : Sides → Size
+sizeOf sides = size (sides .nx) (sides .ny) (sides .nz)
+
+-- the first grid edge of the row at y, z
+abbrev pub firstEdge : Sides → ℕ → ℕ → ℕ
+firstEdge sides y z = 3 * (sides .nx * (y + sides .ny * z))
+
+-- the masks of the row at y, z, of the row behind it (along y) and of the row over it (along z): its own where the grid ends
+abbrev pub ownMask : ℕ → List ℕ → ℕ → ℕ → ℕ
+ownMask ny masks y z = getD masks (y + ny * z) 0
+
+abbrev pub behindMask : ℕ → List ℕ → ℕ → ℕ → ℕ
+behindMask ny masks y z = cond (ltb (y + 1) ny) (getD masks (y + ny * z + 1) 0) (ownMask ny masks y z)
+
+abbrev pub overMask : ℕ → ℕ → List ℕ → ℕ → ℕ → ℕ
+overMask ny nz masks y z = cond (ltb (z + 1) nz) (getD masks (y + ny * z + ny) 0) (ownMask ny masks y z)
+
+-- x samples of the row at y, z are passed
+pub record RowFrom (ny nz : ℕ) (masks : List ℕ) (y z x : ℕ) (row : Row) : Type 0 where
+  pub own : row .here ≡ halved (ownMask ny masks y z) x
+  pub behind : row .behind ≡ halved (behindMask ny masks y z) x
+  pub over : row .over ≡ halved (overMask ny nz masks y z) x
+
+-- the samples of the row and of its neighbours are all below, or all above
+pub record Quiet (full : ℕ) (row : Row) : Type 0 where
+  pub same-y : row .here ≡ row .behind
+  pub same-z : row .here ≡ row .over
+  pub whole : (row .here ≡ 0) ⊎ (row .here ≡ full)
+
+-- do the lowest bits of two masks differ
+abbrev pub parted : ℕ → ℕ → Bool
+parted a b = xor (eqb (a % 2) 1) (eqb (b % 2) 1)
+
+-- the crossed edges of the row's next sample
+pub record Parted (more : Bool) (row : Row) (cuts : Cuts) : Type 0 where
+  pub along-x : cuts .x ≡ (more && parted (row .here) (row .here / 2))
+  pub along-y : cuts .y ≡ parted (row .here) (row .behind)
+  pub along-z : cuts .z ≡ parted (row .here) (row .over)
+
+abbrev pub halvedOnce : Row → Row
+halvedOnce row = record { here = row .here / 2; behind = row .behind / 2; over = row .over / 2 }

@@ -1,0 +1,87 @@
+// The points' numbers, written row by row at their grid edges.
+ghost use mathlib.Core.Path.{_≡_};
+ghost use Prim.Native.Nat.{_+_, _<_, _≤_};
+ghost use lib.ListN.{length};
+ghost use Rattle.points.specs.Rows.{Ready, firstEdge};
+ghost use Rattle.points.specs.Numbers.{mostEdges, nextNumber, withNumber, SampleNumbered, NumberedTo};
+use crate::rows::Cuts;
+use crate::rows::Sides;
+use crate::rows::cuts_at;
+use crate::rows::is_quiet;
+use crate::rows::passed;
+use crate::rows::row_at;
+
+// Writes the next number at an edge if it is crossed, and answers the number after it.
+fn number_edge(cut: bool, e: usize, n: u32, work: &mut [u32]) -> u32
+    requires { ⌜ n ≤ e ⌝ }
+    requires { ⌜ e < length (now work) ⌝ }
+    requires { ⌜ length (now work) ≤ mostEdges ⌝ }
+    ensures { λ r. ⌜ r ≡ nextNumber cut n ⌝ }
+    ensures { λ r. ⌜ now (work .exit) ≡ withNumber cut e n (now (work .entry)) ⌝ }
+{
+    if cut {
+        work[e] = n;
+        return n + 1;
+    }
+    n
+}
+
+// The same at the three edges that leave a sample, of which e is the first.
+fn number_sample(cuts: Cuts, e: usize, n: u32, work: &mut [u32]) -> u32
+    requires { ⌜ n ≤ e ⌝ }
+    requires { ⌜ e + 2 < length (now work) ⌝ }
+    requires { ⌜ length (now work) ≤ mostEdges ⌝ }
+    ensures { λ r. ⌜ SampleNumbered cuts e n r (now (work .entry)) (now (work .exit)) ⌝ }
+{
+    let past_x = number_edge(cuts.x, e, n, work);
+    let past_y = number_edge(cuts.y, e + 1, past_x, work);
+    number_edge(cuts.z, e + 2, past_y, work)
+}
+
+// The points of one row, from a number on. Answers the number after the last.
+fn number_row(
+    sides: Sides,
+    y: usize,
+    z: usize,
+    from: u32,
+    masks: &[u64; 4096],
+    work: &mut [u32],
+) -> u32
+    requires { ⌜ Ready sides ⌝ }
+    requires { ⌜ y < sides .ny ⌝ }
+    requires { ⌜ z < sides .nz ⌝ }
+    requires { ⌜ NumberedTo sides (now masks) (firstEdge sides y z) from (now work) ⌝ }
+    ensures { λ r. ⌜ NumberedTo sides (now (masks .entry)) (firstEdge sides (y + 1) z) r (now (work .exit)) ⌝ }
+{
+    let mut row = row_at(sides, y, z, masks);
+    if is_quiet(row, sides.full) {
+        return from;
+    }
+    let mut n = from;
+    let mut e = 3 * (sides.nx * (y + sides.ny * z));
+    let mut x: usize = 0;
+    while x < sides.nx {
+        let cuts = cuts_at(x + 1 < sides.nx, row);
+        n = number_sample(cuts, e, n, work);
+        row = passed(row);
+        e += 3;
+        x += 1;
+    }
+    n
+}
+
+// The points of one layer, row by row.
+pub fn number_layer(sides: Sides, z: usize, from: u32, masks: &[u64; 4096], work: &mut [u32]) -> u32
+    requires { ⌜ Ready sides ⌝ }
+    requires { ⌜ z < sides .nz ⌝ }
+    requires { ⌜ NumberedTo sides (now masks) (firstEdge sides 0 z) from (now work) ⌝ }
+    ensures { λ r. ⌜ NumberedTo sides (now (masks .entry)) (firstEdge sides 0 (z + 1)) r (now (work .exit)) ⌝ }
+{
+    let mut n = from;
+    let mut y: usize = 0;
+    while y < sides.ny {
+        n = number_row(sides, y, z, n, masks, work);
+        y += 1;
+    }
+    n
+}

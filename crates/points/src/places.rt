@@ -1,0 +1,275 @@
+// The points' places, grid edges and marks, written row by row to the front of their rooms.
+ghost use mathlib.Core.Path.{_≡_};
+ghost use mathlib.Core.List.{[], _∷_};
+ghost use mathlib.Core.Bool.{true, _&&_};
+ghost use Prim.Native.Nat.{_+_, _*_, _^_, _<_, _≤_};
+ghost use lib.Dec.{eqb};
+ghost use Rattle.laws.specs.Range.{one-if};
+ghost use Rattle.grid.specs.Grid.{axes, isEnd, someFace, onFaceFrom};
+ghost use Rattle.grid.specs.Work.{SidesFit};
+ghost use Rattle.points.specs.Rows.{sizeOf, firstEdge};
+ghost use Rattle.points.specs.Numbers.{nextNumber};
+ghost use Rattle.points.specs.Places.{rooms, Standing, RoomsFor, Placeable, SamplePlaceable, written, withPoint, stepOf, pointBy, pointFrom, SamplePlaced, Given, countBelow, countAll, Advanced};
+use crate::rows::Cuts;
+use crate::rows::Sides;
+use crate::rows::cuts_at;
+use crate::rows::is_quiet;
+use crate::rows::passed;
+use crate::rows::row_at;
+use grid::limits::UNIT;
+
+// A sample by its number and its coordinates.
+pub struct Sample {
+    pub s: usize,
+    pub x: usize,
+    pub y: usize,
+    pub z: usize,
+}
+
+// An edge that leaves a sample: its number, its direction (1 along x, 2 along y, 4 along z), and how much further on its other end stands.
+pub struct Edge {
+    pub e: u32,
+    pub d: u32,
+    pub far: usize,
+}
+
+// A point: its place, its grid edge and its mark.
+pub struct Point {
+    pub x: u32,
+    pub y: u32,
+    pub z: u32,
+    pub edge: u32,
+    pub mark: u8,
+}
+
+// Does an edge lie on an outer face across an axis? It stands at a coordinate, and runs so far along the axis.
+fn is_outer(along: u32, c: usize, side: usize) -> bool
+    requires { ⌜ c < side ⌝ }
+    requires { ⌜ side ≤ 64 ⌝ }
+    ensures { λ r. ⌜ r ≡ (eqb along 0 && isEnd c side) ⌝ }
+{
+    if along == 0 {
+        return grid::outermost(c as u32, side as u32);
+    }
+    false
+}
+
+// The mark of a point whose edge leaves a sample in a direction.
+fn mark_of(sides: Sides, at: Sample, d: u32) -> u8
+    requires { ⌜ SidesFit (sides .nx) (sides .ny) (sides .nz) ⌝ }
+    requires { ⌜ Standing sides at ⌝ }
+    ensures { λ r. ⌜ r ≡ one-if (someFace (λ axis last. onFaceFrom axes (sizeOf sides) axis last (at .s) d)) ⌝ }
+{
+    if is_outer(d % 2, at.x, sides.nx) {
+        return 1;
+    }
+    if is_outer(d / 2 % 2, at.y, sides.ny) {
+        return 1;
+    }
+    if is_outer(d / 4 % 2, at.z, sides.nz) {
+        return 1;
+    }
+    0
+}
+
+// The point on an edge, so far along it.
+fn point_on(sides: Sides, at: Sample, edge: Edge, offset: u32) -> Point
+    requires { ⌜ SidesFit (sides .nx) (sides .ny) (sides .nz) ⌝ }
+    requires { ⌜ Standing sides at ⌝ }
+    requires { ⌜ offset < 2 ^ 26 ⌝ }
+    ensures { λ r. ⌜ r ≡ pointBy (sizeOf sides) (at .s) (edge .d) (edge .e) offset ⌝ }
+{
+    let d = edge.d;
+    Point {
+        x: UNIT * (at.x as u32) + d % 2 * offset,
+        y: UNIT * (at.y as u32) + d / 2 % 2 * offset,
+        z: UNIT * (at.z as u32) + d / 4 % 2 * offset,
+        edge: edge.e,
+        mark: mark_of(sides, at, d),
+    }
+}
+
+// Writes a point to the three rooms, at its number.
+fn write_point(p: Point, n: usize, points: &mut [u32], edges: &mut [u32], marks: &mut [u8])
+    requires { ⌜ RoomsFor (n + 1) (rooms (now points) (now edges) (now marks)) ⌝ }
+    ensures { λ _. ⌜ rooms (now (points .exit)) (now (edges .exit)) (now (marks .exit))
+        ≡ written (rooms (now (points .entry)) (now (edges .entry)) (now (marks .entry))) n (p ∷ []) ⌝ }
+{
+    let first = 3 * n;
+    points[first] = p.x;
+    points[first + 1] = p.y;
+    points[first + 2] = p.z;
+    edges[n] = p.edge;
+    marks[n] = p.mark;
+}
+
+// Writes the point of an edge if the edge is crossed, and answers the number after it.
+fn place_edge(
+    cut: bool,
+    sides: Sides,
+    grey: u16,
+    at: Sample,
+    edge: Edge,
+    n: usize,
+    samples: &[u16],
+    points: &mut [u32],
+    edges: &mut [u32],
+    marks: &mut [u8],
+) -> usize
+    requires { ⌜ SidesFit (sides .nx) (sides .ny) (sides .nz) ⌝ }
+    requires { ⌜ Standing sides at ⌝ }
+    requires { ⌜ edge .far ≡ stepOf (sizeOf sides) (edge .d) ⌝ }
+    requires { ⌜ (cut ≡ true → Placeable (now samples) (at .s) (edge .far) n (rooms (now points) (now edges) (now marks))) ⌝ }
+    ensures { λ r. ⌜ r ≡ nextNumber cut n ⌝ }
+    ensures { λ r. ⌜ rooms (now (points .exit)) (now (edges .exit)) (now (marks .exit))
+        ≡ withPoint cut n (pointFrom (sizeOf sides) grey (now (samples .entry)) (at .s) (edge .d) (edge .e))
+        (rooms (now (points .entry)) (now (edges .entry)) (now (marks .entry))) ⌝ }
+{
+    if !cut {
+        return n;
+    }
+    let s = at.s;
+    let other = s + edge.far;
+    let offset = grid::offset(samples[s], samples[other], grey);
+    let p = point_on(sides, at, edge, offset);
+    write_point(p, n, points, edges, marks);
+    n + 1
+}
+
+// The same at the three edges that leave a sample.
+fn place_sample(
+    cuts: Cuts,
+    sides: Sides,
+    grey: u16,
+    at: Sample,
+    n: usize,
+    samples: &[u16],
+    points: &mut [u32],
+    edges: &mut [u32],
+    marks: &mut [u8],
+) -> usize
+    requires { ⌜ SidesFit (sides .nx) (sides .ny) (sides .nz) ⌝ }
+    requires { ⌜ Standing sides at ⌝ }
+    requires { ⌜ SamplePlaceable sides (now samples) (at .s) n cuts (rooms (now points) (now edges) (now marks)) ⌝ }
+    ensures { λ r. ⌜ SamplePlaced sides grey (now (samples .entry)) (at .s) n r cuts
+        (rooms (now (points .entry)) (now (edges .entry)) (now (marks .entry)))
+        (rooms (now (points .exit)) (now (edges .exit)) (now (marks .exit))) ⌝ }
+{
+    let e = 3 * (at.s as u32);
+    let edge_x = Edge { e, d: 1, far: 1 };
+    let edge_y = Edge {
+        e: e + 1,
+        d: 2,
+        far: sides.nx,
+    };
+    let edge_z = Edge {
+        e: e + 2,
+        d: 4,
+        far: sides.nx * sides.ny,
+    };
+    let past_x = place_edge(
+        cuts.x,
+        sides,
+        grey,
+        at,
+        edge_x,
+        n,
+        samples,
+        points,
+        edges,
+        marks,
+    );
+    let past_y = place_edge(
+        cuts.y,
+        sides,
+        grey,
+        at,
+        edge_y,
+        past_x,
+        samples,
+        points,
+        edges,
+        marks,
+    );
+    place_edge(
+        cuts.z,
+        sides,
+        grey,
+        at,
+        edge_z,
+        past_y,
+        samples,
+        points,
+        edges,
+        marks,
+    )
+}
+
+// The points of one row, from a number on. Answers the number after the last.
+fn place_row(
+    sides: Sides,
+    grey: u16,
+    y: usize,
+    z: usize,
+    from: usize,
+    samples: &[u16],
+    masks: &[u64; 4096],
+    points: &mut [u32],
+    edges: &mut [u32],
+    marks: &mut [u8],
+) -> usize
+    requires { ⌜ Given sides grey (now samples) (now masks) ⌝ }
+    requires { ⌜ y < sides .ny ⌝ }
+    requires { ⌜ z < sides .nz ⌝ }
+    requires { ⌜ RoomsFor (countAll sides (now masks)) (rooms (now points) (now edges) (now marks)) ⌝ }
+    requires { ⌜ from ≡ countBelow sides (now masks) (firstEdge sides y z) ⌝ }
+    ensures { λ r. ⌜ Advanced sides grey (now (samples .entry)) (now (masks .entry)) (firstEdge sides y z) (firstEdge sides (y + 1) z) r
+        (rooms (now (points .entry)) (now (edges .entry)) (now (marks .entry)))
+        (rooms (now (points .exit)) (now (edges .exit)) (now (marks .exit))) ⌝ }
+{
+    let mut row = row_at(sides, y, z, masks);
+    if is_quiet(row, sides.full) {
+        return from;
+    }
+    let mut n = from;
+    let mut s = sides.nx * (y + sides.ny * z);
+    let mut x: usize = 0;
+    while x < sides.nx {
+        let cuts = cuts_at(x + 1 < sides.nx, row);
+        let at = Sample { s, x, y, z };
+        n = place_sample(cuts, sides, grey, at, n, samples, points, edges, marks);
+        row = passed(row);
+        s += 1;
+        x += 1;
+    }
+    n
+}
+
+// The points of one layer, row by row.
+pub fn place_layer(
+    sides: Sides,
+    grey: u16,
+    z: usize,
+    from: usize,
+    samples: &[u16],
+    masks: &[u64; 4096],
+    points: &mut [u32],
+    edges: &mut [u32],
+    marks: &mut [u8],
+) -> usize
+    requires { ⌜ Given sides grey (now samples) (now masks) ⌝ }
+    requires { ⌜ z < sides .nz ⌝ }
+    requires { ⌜ RoomsFor (countAll sides (now masks)) (rooms (now points) (now edges) (now marks)) ⌝ }
+    requires { ⌜ from ≡ countBelow sides (now masks) (firstEdge sides 0 z) ⌝ }
+    ensures { λ r. ⌜ Advanced sides grey (now (samples .entry)) (now (masks .entry)) (firstEdge sides 0 z) (firstEdge sides 0 (z + 1)) r
+        (rooms (now (points .entry)) (now (edges .entry)) (now (marks .entry)))
+        (rooms (now (points .exit)) (now (edges .exit)) (now (marks .exit))) ⌝ }
+{
+    let mut n = from;
+    let mut y: usize = 0;
+    while y < sides.ny {
+        n = place_row(sides, grey, y, z, n, samples, masks, points, edges, marks);
+        y += 1;
+    }
+    n
+}

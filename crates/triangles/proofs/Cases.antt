@@ -1,0 +1,131 @@
+-- The cases of a row of cubes: those of its masks are those of the grid, and what the table has of each.
+use mathlib.Core.Path.{_≡_, refl, ap, ap₂, sym, _∙_}
+use mathlib.Core.Bool.{Bool, true, false}
+use mathlib.Core.List.{List, [], _∷_, flatMap, flatten}
+use Prim.Native.Nat.{ℕ, _+_, _*_, _%_, _<_, _≤_}
+use native.Mathlib.Nat.{mul-add}
+use native.Mathlib.Omega.{arith}
+use borrow.Author.Tests.{leb-true}
+use lib.Dec.{leb}
+use lib.ListN.{length, getD, take}
+use lib.Seq.{getD-take}
+use Rattle.laws.specs.Range.{one-if, allTo}
+use Rattle.laws.specs.Bits.{bit, bits, halved}
+use Rattle.laws.specs.Mesh.{Triangle, triangle, cornersOf, flat, sides}
+use Rattle.laws.specs.Sum.{All}
+use Rattle.laws.proofs.Tests.{all-at}
+use Rattle.laws.proofs.Sums.{all-weaken}
+use Rattle.cube.specs.Cube.{cornerX, cornerY, cornerZ, caseOf, isAbove}
+use Rattle.cube.specs.Face.{cuts, wayRound, faceSegments, segmentsOf}
+use Rattle.cube.specs.Loop.{loops, fan}
+use Rattle.cube.specs.Answer.{segments, triangles, count, triangleAt, answer, row, table}
+use Rattle.cube.proofs.Places.{entry}
+use Rattle.cube.proofs.Cases.{CrossedEdge, CrossedSide, sides-crossed}
+use Rattle.grid.specs.Grid.{site}
+use Rattle.grid.specs.Mesh.{cornerSite, caseAt}
+use Rattle.grid.specs.Work.{size}
+use Rattle.grid.proofs.Digits.{low-div, low-mod}
+use Rattle.masks.specs.Masks.{maskAbove}
+use Rattle.triangles.specs.declared.RowMasks.{RowMasks}
+use Rattle.triangles.specs.Row.{masksAt, rowCase}
+use Rattle.triangles.proofs.General.{two-bits, corners-start}
+
+-- the masks give a byte
+pub row-case-small : (m : RowMasks) (x : ℕ) → rowCase m x < 256
+unfolding rowCase
+row-case-small m x = omega arith
+
+-- a case has at most five triangles
+every-count-most : allTo 256 (λ k. leb (count k) 5) ≡ true
+unfolding allTo count triangles fan loops segments segmentsOf flatMap faceSegments cuts wayRound isAbove bit
+every-count-most = refl
+
+pub count-most : (k : ℕ) → k < 256 → count k ≤ 5
+count-most k h = leb-true (count k) 5 (all-at 256 (λ k. leb (count k) 5) every-count-most k h)
+
+same-bits : (b : Bool) (v x : ℕ) → bit v x ≡ b → bit v (x + 1) ≡ b → halved v x % 4 ≡ 3 * one-if b
+same-bits b v x this next = two-bits v x ∙ rw (this, next) (omega arith)
+
+-- a cube that is all above or all below has no triangle
+whole-cube : (b : Bool) → count (255 * one-if b) ≡ 0
+unfolding count triangles fan loops segments segmentsOf flatMap faceSegments cuts wayRound isAbove bit
+whole-cube true = refl
+whole-cube false = refl
+
+-- so none stands between four equal masks where two neighbouring bits agree
+pub one-side-empty : (b : Bool) (v x : ℕ) → bit v x ≡ b → bit v (x + 1) ≡ b → (m : RowMasks) → m .m10 ≡ m .m00 → m .m01 ≡ m .m00 → m .m11 ≡ m .m00
+    → m .m00 ≡ v → count (rowCase m x) ≡ 0
+unfolding rowCase
+one-side-empty b v x this next m p q r s =
+    let e : halved v x % 4 ≡ 3 * one-if b = same-bits b v x this next in
+    let k : rowCase m x ≡ 255 * one-if b = rw (p, q, r, s) (omega arith) in
+    ap count k ∙ whole-cube b
+
+-- of the table's fifteen numbers of a case, as many as its triangles have corners are those corners
+fifteen : List Triangle → List ℕ
+fifteen ts =
+    let at : ℕ → List ℕ = λ n. cornersOf (getD ts n (triangle 0 0 0)) in
+    flatten (at 0 ∷ at 1 ∷ at 2 ∷ at 3 ∷ at 4 ∷ [])
+
+corners-first : (ts : List Triangle) → length ts ≤ 5 → take (3 * length ts) (fifteen ts) ≡ flat ts
+unfolding fifteen flatten flat flatMap
+corners-first [] h = refl
+corners-first (a ∷ []) h = refl
+corners-first (a ∷ b ∷ []) h = refl
+corners-first (a ∷ b ∷ c ∷ []) h = refl
+corners-first (a ∷ b ∷ c ∷ d ∷ []) h = refl
+corners-first (a ∷ b ∷ c ∷ d ∷ e ∷ []) h = refl
+corners-first (a ∷ b ∷ c ∷ d ∷ e ∷ f ∷ ts) h = absurd (omega arith)
+
+pub corner-in-table : (k j : ℕ) → k < 256 → j < 3 * count k → getD table (15 * k + j) 0 ≡ getD (flat (triangles k)) j 0
+unfolding count row answer triangleAt fifteen
+corner-in-table k j h l =
+    let most : length (triangles k) ≤ 5 = count-most k h in
+    let here : 15 * k + j ≡ k * 15 + j = omega arith in
+    ap (λ n. getD table n 0) here
+    ∙ entry k j h (omega arith)
+    ∙ sym (getD-take (3 * length (triangles k)) (fifteen (triangles k)) j 0 l)
+    ∙ ap (λ xs. getD xs j 0) (corners-first (triangles k) most)
+
+-- each corner of a case's triangles is a crossed edge
+pub corners-crossed : (k : ℕ) → k < 256 → All (CrossedEdge k) (flat (triangles k))
+corners-crossed k h =
+    corners-start (CrossedEdge k) (triangles k)
+    (all-weaken (CrossedSide k) (λ s. CrossedEdge k (s .from)) (λ s c. c .start) (sides (triangles k)) (sides-crossed k h))
+
+-- the case that the masks give is the grid's
+module _ (nx ny nz : ℕ) (masks : List ℕ) where
+  mask-at : (x y z : ℕ) → x < nx → maskAbove nx masks (site (size nx ny nz) x y z) ≡ bit (getD masks (y + ny * z) 0) x
+  unfolding maskAbove site
+  mask-at x y z h = rw (low-div x nx (y + ny * z) h, low-mod x nx (y + ny * z) h)
+
+  module _ (x y z : ℕ) (h : x + 1 < nx) where
+    corner : (c along r : ℕ) → x + cornerX c ≡ along → y + cornerY c + ny * (z + cornerZ c) ≡ r → along < nx
+        → maskAbove nx masks (cornerSite (size nx ny nz) x y z c) ≡ bit (getD masks r 0) along
+    unfolding cornerSite
+    corner c along r p q l =
+        mask-at (x + cornerX c) (y + cornerY c) (z + cornerZ c) (omega arith) ∙ ap₂ (λ r x. bit (getD masks r 0) x) q p
+
+    pub case-of-masks : rowCase (masksAt masks ny (ny * z + y)) x ≡ caseAt (size nx ny nz) (maskAbove nx masks) x y z
+    unfolding rowCase caseAt caseOf bits
+    case-of-masks =
+        let r : ℕ = ny * z + y in
+        let this : ny * (z + 0) ≡ ny * z = omega (arith, mul-add ny z 0) in
+        let next : ny * (z + 1) ≡ ny * z + ny = omega (arith, mul-add ny z 1) in
+        rw (
+          corner 0 x r (omega arith) (omega arith) (omega arith),
+          corner 1 (x + 1) r (omega arith) (omega arith) (omega arith),
+          corner 2 x (r + 1) (omega arith) (omega arith) (omega arith),
+          corner 3 (x + 1) (r + 1) (omega arith) (omega arith) (omega arith),
+          corner 4 x (r + ny) (omega arith) (omega arith) (omega arith),
+          corner 5 (x + 1) (r + ny) (omega arith) (omega arith) (omega arith),
+          corner 6 x (r + ny + 1) (omega arith) (omega arith) (omega arith),
+          corner 7 (x + 1) (r + ny + 1) (omega arith) (omega arith) (omega arith),
+        )
+        (omega (
+          arith,
+          two-bits (getD masks r 0) x,
+          two-bits (getD masks (r + 1) 0) x,
+          two-bits (getD masks (r + ny) 0) x,
+          two-bits (getD masks (r + ny + 1) 0) x,
+        ))

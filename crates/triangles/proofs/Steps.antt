@@ -1,0 +1,82 @@
+-- One step of the walk along a row or a layer: the masks that it holds, and what it has counted so far.
+use mathlib.Core.Path.{_≡_, refl, ap, sym, _∙_}
+use mathlib.Core.List.{List}
+use Prim.Native.Nat.{ℕ, _+_, _*_, _-_, _<_, _≤_}
+use native.Mathlib.Nat.{mul-add, mul-le-mul-left}
+use native.Mathlib.Omega.{arith}
+use lib.ListN.{getD}
+use Rattle.laws.specs.Range.{sumTo}
+use Rattle.laws.specs.Bits.{halved}
+use Rattle.laws.proofs.Ranges.{sum-next}
+use Rattle.laws.proofs.Halves.{halved-next}
+use Rattle.cube.specs.Answer.{count, countTable}
+use Rattle.cube.proofs.Places.{count-at}
+use Rattle.grid.specs.Work.{SidesFit}
+use Rattle.triangles.specs.declared.RowMasks.{RowMasks}
+use Rattle.triangles.specs.declared.Layer.{Layer}
+use Rattle.triangles.specs.Row.{masksAt, masksAfter, masksFrom, firstCase, rowCase, rowCount, layerCount}
+use Rattle.triangles.specs.Walk.{AllSet, LayerFits}
+use Rattle.triangles.proofs.General.{sum-most, sum-none}
+use Rattle.triangles.proofs.Cases.{row-case-small, count-most}
+
+-- each layer of cubes has its two layers of samples among the masks
+pub layer-fits : (nx ny nz z : ℕ) (l : Layer) → SidesFit nx ny nz → AllSet nx (l .full) → z + 1 < nz → l .nx ≡ nx → l .ny ≡ ny → l .first ≡ ny * z → LayerFits l
+layer-fits nx ny nz z l s a h p q r =
+    record {
+      least-x = omega (arith, s .least-x);
+      most-x = omega (arith, s .most-x);
+      least-y = omega (arith, s .least-y);
+      most-y = omega (arith, s .most-y);
+      rows = omega (arith, mul-add ny z 2, mul-le-mul-left {m = z + 2} {n = 64} ny (omega arith));
+      above = rw p a;
+    }
+
+-- the masks that the walk holds
+pub masks-first : (m : RowMasks) → m ≡ masksFrom m 0
+unfolding halved
+masks-first m = refl
+
+pub masks-next : (m : RowMasks) (x : ℕ) → masksAfter (masksFrom m x) ≡ masksFrom m (x + 1)
+masks-next m x = rw (halved-next (m .m00) x, halved-next (m .m10) x, halved-next (m .m01) x, halved-next (m .m11) x)
+
+-- the case that it reads off them, and the count of a case
+pub case-held : (m rest : RowMasks) (x k : ℕ) → rest ≡ masksFrom m x → k ≡ firstCase rest → k ≡ rowCase m x
+unfolding rowCase
+case-held m rest x k held read = read ∙ ap firstCase held
+
+pub count-read : (counts : List ℕ) (k : ℕ) → counts ≡ countTable → k < 256 → getD counts k 0 ≡ count k
+count-read counts k e h = rw e (count-at k h)
+
+-- the count along a row
+module _ (m : RowMasks) where
+  pub row-count-first : 0 ≡ rowCount 0 m
+  unfolding rowCount sumTo
+  row-count-first = refl
+
+  pub row-count-next : (x : ℕ) → rowCount (x + 1) m ≡ rowCount x m + count (rowCase m x)
+  unfolding rowCount
+  row-count-next x = sum-next x (λ x. count (rowCase m x))
+
+  pub row-count-most : (cubes : ℕ) → rowCount cubes m ≤ 5 * cubes
+  unfolding rowCount
+  row-count-most cubes = sum-most 5 cubes (λ x. count (rowCase m x)) (λ x l. count-most (rowCase m x) (row-case-small m x))
+
+  pub row-count-none : (cubes : ℕ) → ((x : ℕ) → x < cubes → count (rowCase m x) ≡ 0) → 0 ≡ rowCount cubes m
+  unfolding rowCount
+  row-count-none cubes h = sym (sum-none cubes (λ x. count (rowCase m x)) h)
+
+-- the count along a layer
+module _ (nx ny : ℕ) (masks : List ℕ) (first : ℕ) where
+  pub layer-count-first : 0 ≡ layerCount nx ny 0 masks first
+  unfolding layerCount sumTo
+  layer-count-first = refl
+
+  pub layer-count-next : (y : ℕ) → layerCount nx ny (y + 1) masks first ≡ layerCount nx ny y masks first + rowCount (nx - 1) (masksAt masks ny (first + y))
+  unfolding layerCount
+  layer-count-next y = sum-next y (λ y. rowCount (nx - 1) (masksAt masks ny (first + y)))
+
+  pub layer-count-most : (rows : ℕ) → nx ≤ 64 → layerCount nx ny rows masks first ≤ 315 * rows
+  unfolding layerCount
+  layer-count-most rows h =
+      sum-most 315 rows (λ y. rowCount (nx - 1) (masksAt masks ny (first + y)))
+      (λ y l. omega (arith, row-count-most (masksAt masks ny (first + y)) (nx - 1)))

@@ -1,0 +1,302 @@
+// The triangles of a grid, counted and written cube by cube from the masks of its rows.
+ghost use mathlib.Core.Path.{_≡_};
+ghost use mathlib.Core.Bool.{true};
+ghost use mathlib.Core.List.{map};
+ghost use Prim.Native.Nat.{ℕ, _+_, _*_, _-_, _≤_, _<_};
+ghost use lib.ListN.{length};
+ghost use lib.Seq.{sets};
+ghost use Rattle.laws.specs.Bits.{bit};
+ghost use Rattle.laws.specs.Room.{laid};
+ghost use Rattle.laws.specs.Mesh.{flat};
+ghost use Rattle.cube.specs.Cube.{cubeEdges};
+ghost use Rattle.cube.specs.Promise.{Rows, Counts};
+ghost use Rattle.cube.specs.Answer.{count as countOf};
+ghost use Rattle.grid.specs.Mesh.{edgeMesh, mesh};
+ghost use Rattle.grid.specs.Work.{size, SidesFit, Numbered};
+ghost use Rattle.masks.specs.Masks.{maskAbove};
+ghost use Rattle.triangles.specs.Row.{masksAt, masksAfter, firstCase, rowCase, rowCount, layerCount};
+ghost use Rattle.triangles.specs.Row.{edgeOffset, cubeNumbers, rowNumbers, layerNumbers};
+ghost use Rattle.triangles.specs.Walk.{AllSet, LayerFits, CubeRoom, RowRoom, LayerRoom, Written};
+
+// The masks of the four rows of samples around a row of cubes: the row at the cubes' y and z, and those one on along y, along z and along both.
+struct RowMasks {
+    m00: u64,
+    m10: u64,
+    m01: u64,
+    m11: u64,
+}
+
+// A layer of cubes: its sides along x and y, the mask of a row of samples that are all above, and the sample row that the layer starts at.
+struct Layer {
+    nx: usize,
+    ny: usize,
+    full: u64,
+    first: usize,
+}
+
+impl RowMasks {
+    // The case of the first cube.
+    fn case(self) -> usize
+        ensures { λ r. ⌜ r ≡ firstCase self ⌝ }
+    {
+        (self.m00 % 4 + 4 * (self.m10 % 4) + 16 * (self.m01 % 4) + 64 * (self.m11 % 4)) as usize
+    }
+
+    // On by one sample.
+    fn next(self) -> RowMasks
+        ensures { λ r. ⌜ r ≡ masksAfter self ⌝ }
+    {
+        RowMasks {
+            m00: self.m00 / 2,
+            m10: self.m10 / 2,
+            m01: self.m01 / 2,
+            m11: self.m11 / 2,
+        }
+    }
+
+    // Are the four rows all below or all above? Then no cube has a triangle.
+    fn one_side(self, full: u64) -> bool
+        ensures { λ r. ⌜ (r ≡ true → (x : ℕ) → bit full x ≡ true → bit full (x + 1) ≡ true → countOf (rowCase self x) ≡ 0) ⌝ }
+    {
+        let m = self.m00;
+        if m != self.m10 {
+            return false;
+        }
+        if m != self.m01 {
+            return false;
+        }
+        if m != self.m11 {
+            return false;
+        }
+        if m == 0 {
+            return true;
+        }
+        m == full
+    }
+}
+
+// The masks around the row of cubes whose first corners are sample row r.
+fn masks_at(masks: &[u64; 4096], ny: usize, r: usize) -> RowMasks
+    requires { ⌜ r + ny + 1 < 4096 ⌝ }
+    ensures { λ m. ⌜ m ≡ masksAt (now (masks .entry)) ny r ⌝ }
+{
+    RowMasks {
+        m00: masks[r],
+        m10: masks[r + 1],
+        m01: masks[r + ny],
+        m11: masks[r + ny + 1],
+    }
+}
+
+// The mask of a row of nx samples that are all above.
+fn full_mask(nx: usize) -> u64
+    requires { ⌜ nx ≤ 64 ⌝ }
+    ensures { λ r. ⌜ AllSet nx r ⌝ }
+{
+    let mut full = 0;
+    for _ in 0..nx {
+        full = 2 * full + 1;
+    }
+    full
+}
+
+// How many triangles a row of cubes has.
+fn count_row(counts: &[u8; 256], row: RowMasks, cubes: usize, full: u64) -> u32
+    requires { ⌜ Counts (now counts) ⌝ }
+    requires { ⌜ cubes < 64 ⌝ }
+    requires { ⌜ AllSet (cubes + 1) full ⌝ }
+    ensures { λ r. ⌜ r ≡ rowCount cubes row ⌝ }
+{
+    if row.one_side(full) {
+        return 0;
+    }
+    let mut rest = row;
+    let mut sum = 0;
+    for _ in 0..cubes {
+        let case = rest.case();
+        sum += counts[case] as u32;
+        rest = rest.next();
+    }
+    sum
+}
+
+// How many triangles a layer of cubes has.
+fn count_layer(counts: &[u8; 256], masks: &[u64; 4096], layer: Layer) -> u32
+    requires { ⌜ Counts (now counts) ⌝ }
+    requires { ⌜ LayerFits layer ⌝ }
+    ensures { λ r. ⌜ r ≡ layerCount (layer .nx) (layer .ny) (layer .ny - 1) (now (masks .entry)) (layer .first) ⌝ }
+{
+    let last = layer.ny - 1;
+    let mut sum = 0;
+    for y in 0..last {
+        let row = masks_at(masks, layer.ny, layer.first + y);
+        sum += count_row(counts, row, layer.nx - 1, layer.full);
+    }
+    sum
+}
+
+// How many triangles the grid has.
+pub fn count(nx: usize, ny: usize, nz: usize, masks: &[u64; 4096]) -> u32
+    requires { ⌜ SidesFit nx ny nz ⌝ }
+    ensures { λ r. ⌜ r ≡ length (edgeMesh (size nx ny nz) (maskAbove nx (now (masks .entry)))) ⌝ }
+{
+    let counts = cube::counts();
+    let full = full_mask(nx);
+    let last = nz - 1;
+    let mut first = 0;
+    let mut sum = 0;
+    for _ in 0..last {
+        let layer = Layer {
+            nx,
+            ny,
+            full,
+            first,
+        };
+        sum += count_layer(&counts, masks, layer);
+        first += ny;
+    }
+    sum
+}
+
+// How far the grid edge of each cube edge is from the first grid edge of the cube's first corner.
+fn edge_offsets(nx: usize, ny: usize) -> [usize; 12]
+    requires { ⌜ (nx ≤ 64) × (ny ≤ 64) ⌝ }
+    ensures { λ r. ⌜ r ≡ map (edgeOffset nx ny) cubeEdges ⌝ }
+{
+    let y = 3 * nx;
+    let z = y * ny;
+    [0, y, z, y + z, 1, 4, z + 1, z + 4, 2, 5, y + 2, y + 5]
+}
+
+// Writes the numbers of one cube's triangles; `many` is how many they are, and `edge` the first grid edge of the cube's first corner.
+fn write_cube(
+    rows: &[u8; 3840],
+    offsets: &[usize; 12],
+    work: &[u32],
+    triangles: &mut [u32],
+    case: usize,
+    many: usize,
+    edge: usize,
+    at: usize,
+)
+    requires { ⌜ Rows (now rows) ⌝ }
+    requires { ⌜ CubeRoom (now offsets) (now work) (now triangles) case many edge at ⌝ }
+    ensures { λ _. ⌜ now (triangles .exit) ≡ sets (now (triangles .entry)) at (cubeNumbers (now (offsets .entry)) (now (work .entry)) edge case) ⌝ }
+{
+    let from = 15 * case;
+    for j in 0..many {
+        let e = rows[from + j] as usize;
+        let place = edge + offsets[e];
+        triangles[at + j] = work[place];
+    }
+}
+
+// Writes the numbers of a row of cubes, and answers where it stopped.
+fn write_row(
+    rows: &[u8; 3840],
+    counts: &[u8; 256],
+    offsets: &[usize; 12],
+    work: &[u32],
+    triangles: &mut [u32],
+    row: RowMasks,
+    cubes: usize,
+    full: u64,
+    edge: usize,
+    at: usize,
+) -> usize
+    requires { ⌜ Rows (now rows) ⌝ }
+    requires { ⌜ Counts (now counts) ⌝ }
+    requires { ⌜ cubes < 64 ⌝ }
+    requires { ⌜ AllSet (cubes + 1) full ⌝ }
+    requires { ⌜ RowRoom (now offsets) (now work) (now triangles) cubes row edge at ⌝ }
+    ensures { λ r. ⌜ Written (now (triangles .entry)) (now (triangles .exit)) at (rowNumbers (now (offsets .entry)) (now (work .entry)) cubes row edge) r ⌝ }
+{
+    if row.one_side(full) {
+        return at;
+    }
+    let mut rest = row;
+    let mut here = edge;
+    let mut to = at;
+    for _ in 0..cubes {
+        let case = rest.case();
+        let many = 3 * (counts[case] as usize);
+        write_cube(rows, offsets, work, triangles, case, many, here, to);
+        to += many;
+        here += 3;
+        rest = rest.next();
+    }
+    to
+}
+
+// Writes the numbers of a layer of cubes, and answers where it stopped.
+fn write_layer(
+    rows: &[u8; 3840],
+    counts: &[u8; 256],
+    offsets: &[usize; 12],
+    masks: &[u64; 4096],
+    work: &[u32],
+    triangles: &mut [u32],
+    layer: Layer,
+    at: usize,
+) -> usize
+    requires { ⌜ Rows (now rows) ⌝ }
+    requires { ⌜ Counts (now counts) ⌝ }
+    requires { ⌜ LayerFits layer ⌝ }
+    requires { ⌜ LayerRoom (now offsets) (now work) (now triangles) (layer .nx) (layer .ny) (now masks) (layer .first) at ⌝ }
+    ensures { λ r. ⌜ Written (now (triangles .entry)) (now (triangles .exit)) at (layerNumbers (now (offsets .entry)) (now (work .entry)) (layer .nx) (layer .ny) (layer .ny - 1) (now (masks .entry)) (layer .first)) r ⌝ }
+{
+    let last = layer.ny - 1;
+    let step = 3 * layer.nx;
+    let mut edge = step * layer.first;
+    let mut to = at;
+    for y in 0..last {
+        let row = masks_at(masks, layer.ny, layer.first + y);
+        to = write_row(
+            rows,
+            counts,
+            offsets,
+            work,
+            triangles,
+            row,
+            layer.nx - 1,
+            layer.full,
+            edge,
+            to,
+        );
+        edge += step;
+    }
+    to
+}
+
+// Writes the triangles to the front of their room; `work` has the number of the point at each crossed edge.
+pub fn write(
+    nx: usize,
+    ny: usize,
+    nz: usize,
+    masks: &[u64; 4096],
+    work: &[u32],
+    triangles: &mut [u32],
+)
+    requires { ⌜ SidesFit nx ny nz ⌝ }
+    requires { ⌜ Numbered (size nx ny nz) (maskAbove nx (now masks)) (now work) ⌝ }
+    requires { ⌜ 3 * length (edgeMesh (size nx ny nz) (maskAbove nx (now masks))) ≤ length (now triangles) ⌝ }
+    ensures { λ _. ⌜ now (triangles .exit) ≡ laid (flat (mesh (size nx ny nz) (maskAbove nx (now (masks .entry))))) (now (triangles .entry)) ⌝ }
+{
+    let rows = cube::rows();
+    let counts = cube::counts();
+    let offsets = edge_offsets(nx, ny);
+    let full = full_mask(nx);
+    let last = nz - 1;
+    let mut first = 0;
+    let mut to = 0;
+    for _ in 0..last {
+        let layer = Layer {
+            nx,
+            ny,
+            full,
+            first,
+        };
+        to = write_layer(&rows, &counts, &offsets, masks, work, triangles, layer, to);
+        first += ny;
+    }
+}

@@ -1,0 +1,121 @@
+//! What the comparing tests share: made-up numbers, grids, rooms with guard values, and one call made on both sides.
+#![allow(dead_code)]
+
+/// Made-up numbers, the same for the same seed.
+pub struct Seed(u64);
+
+impl Seed {
+    pub fn new(seed: u64) -> Self {
+        Seed(seed.wrapping_mul(0x9e37_79b9_7f4a_7c15) | 1)
+    }
+
+    pub fn next(&mut self) -> u64 {
+        self.0 ^= self.0 << 13;
+        self.0 ^= self.0 >> 7;
+        self.0 ^= self.0 << 17;
+        self.0
+    }
+
+    pub fn below(&mut self, bound: u64) -> u64 {
+        (self.next() >> 11) % bound
+    }
+}
+
+/// The rooms of one call of the extractor, whole.
+#[derive(Clone, PartialEq, Eq, Debug)]
+pub struct Rooms {
+    pub points: Vec<u32>,
+    pub edges: Vec<u32>,
+    pub marks: Vec<u8>,
+    pub triangles: Vec<u32>,
+    pub work: Vec<u32>,
+}
+
+/// The lengths of the five rooms.
+#[derive(Clone, Copy, Debug)]
+pub struct Lengths {
+    pub points: usize,
+    pub edges: usize,
+    pub marks: usize,
+    pub triangles: usize,
+    pub work: usize,
+}
+
+impl Rooms {
+    /// Rooms of these lengths full of guard values, a different one at each place.
+    pub fn guarded(lengths: Lengths) -> Rooms {
+        let guard = |start: u32, length: usize| {
+            (0..length as u32)
+                .map(|i| start ^ i.wrapping_mul(0x0101_4943))
+                .collect()
+        };
+        Rooms {
+            points: guard(0xa5a5_0001, lengths.points),
+            edges: guard(0x5a5a_0003, lengths.edges),
+            marks: (0..lengths.marks).map(|i| 0xc3 ^ i as u8).collect(),
+            triangles: guard(0xdead_0005, lengths.triangles),
+            work: guard(0xbeef_0007, lengths.work),
+        }
+    }
+}
+
+/// Rooms that hold everything a grid of these sides can give, with some to spare.
+pub fn roomy(sides: [u32; 3]) -> Lengths {
+    let samples: usize = sides.iter().map(|&side| side as usize).product();
+    let cubes: usize = sides.iter().map(|&side| side as usize - 1).product();
+    Lengths {
+        points: 9 * samples + 7,
+        edges: 3 * samples + 5,
+        marks: 3 * samples + 3,
+        triangles: 15 * cubes + 11,
+        work: 3 * samples,
+    }
+}
+
+/// One call on both sides, on equal rooms: the same answer, and the same content of every place of every room.
+pub fn same(
+    sides: [u32; 3],
+    grey: u16,
+    samples: &[u16],
+    lengths: Lengths,
+) -> (viewer::Extracted, Rooms) {
+    let mut proved = Rooms::guarded(lengths);
+    let mut plain = proved.clone();
+    let found = viewer::extract(
+        sides,
+        grey,
+        samples,
+        viewer::Rooms {
+            points: &mut proved.points,
+            edges: &mut proved.edges,
+            marks: &mut proved.marks,
+            triangles: &mut proved.triangles,
+            work: &mut proved.work,
+        },
+    );
+    let [nx, ny, nz] = sides;
+    let expected = reference::extract::extract(
+        nx,
+        ny,
+        nz,
+        grey,
+        samples,
+        &mut plain.points,
+        &mut plain.edges,
+        &mut plain.marks,
+        &mut plain.triangles,
+        &mut plain.work,
+    );
+    let at = format!("sides {sides:?}, grey value {grey}, rooms {lengths:?}");
+    assert_eq!(
+        (found.number, found.points, found.triangles),
+        (expected.number, expected.points, expected.triangles),
+        "{at}"
+    );
+    assert_eq!(proved.points, plain.points, "points, {at}");
+    assert_eq!(proved.edges, plain.edges, "edges, {at}");
+    assert_eq!(proved.marks, plain.marks, "marks, {at}");
+    assert_eq!(proved.triangles, plain.triangles, "triangles, {at}");
+    assert_eq!(proved.work, plain.work, "work room, {at}");
+    (found, proved)
+}

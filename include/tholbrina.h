@@ -1,0 +1,52 @@
+/* Tholbrina: the surface of the metal in an X-ray volume, proved.
+ *
+ * Every call checks everything itself. It answers 0 if granted, else the number of the refusal that comes first in the order given with the
+ * call. A refusal leaves every lent result room as it was, and the counts zero. Lengths are numbers of elements. Rooms must not overlap. */
+#ifndef THOLBRINA_H
+#define THOLBRINA_H
+
+#include <stddef.h>
+#include <stdint.h>
+
+#ifdef __cplusplus
+extern "C" {
+#endif
+
+/* How many triangles a case of the cube has: 0 to 5. */
+uint8_t tholbrina_case_count(uint8_t case_number);
+
+/* The edge number at a place, 0 to 14, of a case's five triangles; 0 at any place beyond. */
+uint8_t tholbrina_case_edge(uint8_t case_number, uint32_t place);
+
+/* The length of the extractor's work room for a grid of these sides. */
+static inline size_t tholbrina_extract_work(size_t nx, size_t ny, size_t nz) {
+  return 3 * nx * ny * nz;
+}
+
+/* The mesh of a grid of nx * ny * nz samples at one grey value. Sample (x, y, z) is samples[x + nx * (y + ny * z)].
+ *
+ * Fills from the front: points, three coordinates each in 1/256 of a voxel; edges, the number of each point's grid edge; marks, 1 for a point
+ * on an outer face of the grid, else 0; triangles, three point numbers each. The rest of each room stays. A room for points or triangles counts
+ * its whole threes. *point_count and *triangle_count say how many of each there are, and are 0 after a refusal.
+ *
+ * Refusals, in this order:
+ *   1  a side is below 2 or above 64
+ *   2  samples_len is not nx * ny * nz
+ *   3  work_len is not 3 * nx * ny * nz
+ *   4  there are more than 250,000 points, or more than the least of the point, edge and mark rooms holds
+ *   5  there are more than 500,000 triangles, or more than their room holds
+ * 1, 2 and 3 leave the work room as it was; 4, 5 and a granted call leave it all zero. */
+uint32_t tholbrina_extract(uint32_t nx, uint32_t ny, uint32_t nz, uint16_t grey,
+                           const uint16_t *samples, size_t samples_len,
+                           uint32_t *points, size_t points_len,
+                           uint32_t *edges, size_t edges_len,
+                           uint8_t *marks, size_t marks_len,
+                           uint32_t *triangles, size_t triangles_len,
+                           uint32_t *work, size_t work_len,
+                           uint32_t *point_count, uint32_t *triangle_count);
+
+#ifdef __cplusplus
+}
+#endif
+
+#endif
