@@ -1,10 +1,11 @@
 # make test   proves every crate from nothing, tries the must-fail edits, and runs the tests from outside
 # make run    runs the library on a worked example
+# make bench  times the library, on an x86-64 machine
 
 SHELL := bash
 .SHELLFLAGS := -euo pipefail -c
 .ONESHELL:
-.PHONY: test run
+.PHONY: test run bench
 
 # rt's last line is kept, and said again as the very last line once every other step has passed too.
 test:
@@ -21,3 +22,6 @@ test:
 run:
 	@rt staticlib viewer >/dev/null
 	tools/cargo run --quiet --manifest-path host/Cargo.toml --package viewer --example cases
+
+bench:
+	@tools/bench

@@ -2,7 +2,7 @@
 ghost use mathlib.Core.Path.{_≡_};
 ghost use Prim.Native.Nat.{min};
 ghost use lib.Dec.{ltb};
-ghost use lib.ListN.{length};
+ghost use lib.ListN.{length, replicate};
 ghost use Rattle.grid.specs.Grid.{axes, sampleCount, edgeCount};
 ghost use Rattle.grid.specs.Work.{size, SidesFit};
 ghost use Rattle.extract.specs.Outcome.{sideFits, sidesFit};
@@ -59,6 +59,15 @@ fn refused(number: u32) -> Extracted
     }
 }
 
+// A refusal after the lengths leaves the work room zero.
+fn refused_later(number: u32, work: &mut [u32]) -> Extracted
+    ensures answer { λ r. ⌜ (r .number ≡ number) × (r .points ≡ 0) × (r .triangles ≡ 0) ⌝ }
+    ensures zero { λ r. ⌜ now (work .exit) ≡ replicate (length (now (work .entry))) 0 ⌝ }
+{
+    rooms::clear(work);
+    refused(number)
+}
+
 // Points and triangles are counted before anything is written, so that a refusal leaves the rooms.
 fn measured(
     nx: usize,
@@ -82,13 +91,11 @@ fn measured(
     let found = points::number(nx, ny, nz, &masks, work);
     let room = rooms::least(points.len() / 3, rooms::least(edges.len(), marks.len()));
     if exceeds(found, MOST_POINTS, room) {
-        rooms::clear(work);
-        return refused(4);
+        return refused_later(4, work);
     }
     let made = triangles::count(nx, ny, nz, &masks);
     if exceeds(made, MOST_TRIANGLES, triangles.len() / 3) {
-        rooms::clear(work);
-        return refused(5);
+        return refused_later(5, work);
     }
     points::place(nx, ny, nz, grey, samples, &masks, points, edges, marks);
     triangles::write(nx, ny, nz, &masks, work, triangles);

@@ -5,3 +5,4 @@ pub mod Crossings
 pub mod Same
 pub mod Points
 pub mod Edges
+pub mod Sound

@@ -104,3 +104,10 @@ join-quiet x (suc y) f h q = go (decLt y x) (λ l. join-quiet x y f l (λ i a b.
     go : Dec (y < x) → (x ≤ y → joinTo y f ≡ joinTo x f) → joinTo y f ++ f y ≡ joinTo x f
     go (yes l) below = let e : x ≡ suc y = omega arith in rw e
     go (no ge) below = rw (q y (omega arith) (omega arith), below (omega arith)) (append-nil (joinTo x f))
+
+-- a property of lists that two lists have together if each has it, of a join
+pub of-join : {A : Type 0} (P : List A → Type 0) → P [] → ((xs ys : List A) → P xs → P ys → P (xs ++ ys)) → (n : ℕ) (f : ℕ → List A)
+    → ((i : ℕ) → i < n → P (f i)) → P (joinTo n f)
+unfolding joinTo
+of-join P none both zero f h = none
+of-join P none both (suc n) f h = both (joinTo n f) (f n) (of-join P none both n f (λ i l. h i (omega arith))) (h n (omega arith))

@@ -6,7 +6,7 @@ use Prim.Native.Nat.{ℕ, _+_}
 use native.Mathlib.Omega.{arith}
 use lib.Dec.{eqb}
 use borrow.Author.Tests.{eqb-true}
-use Rattle.laws.specs.Sum.{sumOf}
+use Rattle.laws.specs.Sum.{sumOf, All}
 use Rattle.laws.specs.Order.{rearranged}
 use Rattle.laws.specs.Mesh.{Arrow, arrow, sameArrow, flip, Triangle, rename, sides, total}
 use Rattle.laws.proofs.Tests.{both}
@@ -41,3 +41,10 @@ module _ (w : ℕ → ℕ → ℕ) where
   unfolding total sides sumOf
   total-rename f [] = refl
   total-rename f (t ∷ ts) = omega (arith, total-rename f ts)
+
+-- what holds of the sides of triangles, after their corners were renamed
+pub all-renamed : (P : Arrow → Type 0) (f : ℕ → ℕ) (ts : List Triangle) → All (λ a. P (arrow (f (a .from)) (f (a .to)))) (sides ts)
+    → All P (sides (map (rename f) ts))
+unfolding sides
+all-renamed P f [] a = tt
+all-renamed P f (t ∷ ts) a = (a .0, (a .1 .0, (a .1 .1 .0, all-renamed P f ts (a .1 .1 .1))))

@@ -1,4 +1,4 @@
--- Rows, samples and edges are few enough for the rooms and the numbers that hold them.
+-- Rows, samples and edges are few enough for the rooms and the numbers that hold them; and where rows and layers begin.
 use mathlib.Core.Path.{_≡_}
 use Prim.Native.Nat.{ℕ, _+_, _*_, _<_, _≤_}
 use native.Mathlib.Nat.{mul-le-mul, mul-add, mul-one, mul-zero, add-zero, zero-add}

@@ -22,7 +22,7 @@ use Rattle.points.specs.declared.rows.Cuts.{Cuts}
 use Rattle.points.specs.Rows.{Ready, sizeOf, firstEdge, ownMask, behindMask, overMask, RowFrom, Quiet, Parted, halvedOnce}
 
 -- a sample of a row is above when its bit of the row's mask is set
-pub above-at : (nx : ℕ) (masks : List ℕ) (x row : ℕ) → x < nx → maskAbove nx masks (x + nx * row) ≡ bit (getD masks row 0) x
+above-at : (nx : ℕ) (masks : List ℕ) (x row : ℕ) → x < nx → maskAbove nx masks (x + nx * row) ≡ bit (getD masks row 0) x
 unfolding maskAbove
 above-at nx masks x row h = ap₂ (λ r x. bit (getD masks r 0) x) (low-div x nx row h) (low-mod x nx row h)
 
@@ -45,7 +45,7 @@ module _ (nx ny nz : ℕ) (masks : List ℕ) (x y z : ℕ) (hx : x < nx) (hy : y
   own : above s ≡ bit (ownMask ny masks y z) x
   own = above-at nx masks x row hx
 
-  pub cut-x : crossed axes (size nx ny nz) above (3 * s)
+  cut-x : crossed axes (size nx ny nz) above (3 * s)
       ≡ (ltb (x + 1) nx && xor (bit (ownMask ny masks y z) x) (bit (ownMask ny masks y z) (x + 1)))
   unfolding site
   cut-x = crossed-x (size nx ny nz) above x y z hx hy hz ∙ go (ltb (x + 1) nx) refl
@@ -54,7 +54,7 @@ module _ (nx ny nz : ℕ) (masks : List ℕ) (x y z : ℕ) (hx : x < nx) (hy : y
       go true h = let e : s + 1 ≡ x + 1 + nx * row = omega arith in rw (own, e, above-at nx masks (x + 1) row (ltb-true _ _ h))
       go false h = refl
 
-  pub cut-y : crossed axes (size nx ny nz) above (3 * s + 1) ≡ xor (bit (ownMask ny masks y z) x) (bit (behindMask ny masks y z) x)
+  cut-y : crossed axes (size nx ny nz) above (3 * s + 1) ≡ xor (bit (ownMask ny masks y z) x) (bit (behindMask ny masks y z) x)
   unfolding site
   cut-y = crossed-y (size nx ny nz) above x y z hx hy hz ∙ go (ltb (y + 1) ny)
     where
@@ -65,7 +65,7 @@ module _ (nx ny nz : ℕ) (masks : List ℕ) (x y z : ℕ) (hx : x < nx) (hy : y
       go true = rw (own, e, above-at nx masks x (row + 1) hx)
       go false = sym (same-ends (bit (ownMask ny masks y z) x))
 
-  pub cut-z : crossed axes (size nx ny nz) above (3 * s + 2) ≡ xor (bit (ownMask ny masks y z) x) (bit (overMask ny nz masks y z) x)
+  cut-z : crossed axes (size nx ny nz) above (3 * s + 2) ≡ xor (bit (ownMask ny masks y z) x) (bit (overMask ny nz masks y z) x)
   unfolding site
   cut-z = crossed-z (size nx ny nz) above x y z hx hy hz ∙ go (ltb (z + 1) nz)
     where

@@ -13,13 +13,13 @@ use Rattle.laws.proofs.Tests.{both}
 use Rattle.laws.proofs.Keep.{rank-lt}
 use Rattle.grid.specs.Grid.{site, axes, sampleCount, edgeCount, crossed, isAboveGrey}
 use Rattle.grid.specs.Point.{number}
-use Rattle.grid.proofs.Crossings.{crossed-x, crossed-y, crossed-z}
+use Rattle.grid.proofs.Crossings.{step-x, step-y, step-z, crossed-x, crossed-y, crossed-z}
 use Rattle.masks.specs.Masks.{maskAbove}
 use Rattle.points.specs.declared.rows.Sides.{Sides}
 use Rattle.points.specs.declared.rows.Cuts.{Cuts}
 use Rattle.points.specs.Rows.{sizeOf}
 use Rattle.points.specs.Numbers.{nextNumber}
-use Rattle.points.specs.Places.{Rooms, RoomsFor, Placeable, SamplePlaceable, Given, countBelow, countAll}
+use Rattle.points.specs.Places.{Rooms, RoomsFor, stepOf, Placeable, SamplePlaceable, Given, countBelow, countAll}
 use Rattle.points.proofs.Bounds.{sample-small}
 use Rattle.points.proofs.Cut.{Tested, same-ends}
 use Rattle.points.proofs.Placing.{count-next-edge}
@@ -47,14 +47,19 @@ module _ (sides : Sides) (grey : ℕ) (samples masks : List ℕ) (given : Given 
       let less : countBelow sides masks e < countAll sides masks = rank-lt (edgeCount axes (sizeOf sides)) e cut l h in
       record { points = omega (arith, fits .points); edges = omega (arith, fits .edges); marks = omega (arith, fits .marks) }
 
-  -- the point of a crossed edge that leaves sample s can be placed
-  placeable : (s far e n : ℕ) (there : Bool) (r : Rooms) → s < sampleCount (sizeOf sides) → (there ≡ true → s + far < sampleCount (sizeOf sides))
-      → cut e ≡ (there && xor (above s) (above (s + far))) → e < edgeCount axes (sizeOf sides) → n ≡ countBelow sides masks e
-      → RoomsFor (countAll sides masks) r → cut e ≡ true → Placeable samples s far n r
-  placeable s far e n there r small other tested l counted fits crossed-here =
-      let t = both there (xor (above s) (above (s + far))) (sym tested ∙ crossed-here) in
+  -- the point of a crossed edge e, which leaves sample s along an axis, can be placed
+  placeable : (s axis step e n : ℕ) (there : Bool) (r : Rooms) → s < sampleCount (sizeOf sides) → stepOf (sizeOf sides) axis ≡ step
+      → (there ≡ true → s + step < sampleCount (sizeOf sides)) → cut e ≡ (there && xor (above s) (above (s + step)))
+      → e < edgeCount axes (sizeOf sides) → n ≡ countBelow sides masks e → RoomsFor (countAll sides masks) r → cut e ≡ true
+      → Placeable (sizeOf sides) samples s axis n r
+  placeable s axis step e n there r small is other tested l counted fits crossed-here =
+      let t = both there (xor (above s) (above (s + step))) (sym tested ∙ crossed-here) in
       let end = other (t .0) in
-      record { there = omega (arith, given .whole, end); differ = differ s (s + far) small end (t .1); room = room e n r l crossed-here counted fits }
+      record {
+        there = rw is (omega (arith, given .whole, end));
+        differ = rw is (differ s (s + step) small end (t .1));
+        room = room e n r l crossed-here counted fits;
+      }
 
   -- the points of a sample's crossed edges can be placed
   module _ (x y z : ℕ) (hx : x < sides .nx) (hy : y < sides .ny) (hz : z < sides .nz) where
@@ -87,9 +92,24 @@ module _ (sides : Sides) (grey : ℕ) (samples masks : List ℕ) (given : Given 
         let two : nextNumber (cuts .y) (nextNumber (cuts .x) n) ≡ countBelow sides masks (3 * s + 2)
         = omega (arith, one, rw step at (count-next-edge sides grey samples masks (3 * s + 1)), ap one-if (by .along-y)) in
         record {
-          along-x = λ h. placeable s 1 (3 * s) n (ltb (x + 1) (sides .nx)) r small past-x (crossed-x size above x y z hx hy hz) (omega (arith, small)) counted fits (by .along-x ∙ h);
-          along-y = λ h. placeable s (sides .nx) (3 * s + 1) _ (ltb (y + 1) (sides .ny)) r small past-y (crossed-y size above x y z hx hy hz) (omega (arith, small)) one fits (by .along-y ∙ h);
-          along-z = λ h. placeable s (sides .nx * sides .ny) (3 * s + 2) _ (ltb (z + 1) (sides .nz)) r small past-z (crossed-z size above x y z hx hy hz) (omega (arith, small)) two fits (by .along-z ∙ h);
+          along-x = λ h.
+              placeable s 0 1 (3 * s) n (ltb (x + 1) (sides .nx)) r small (step-x size) past-x (crossed-x size above x y z hx hy hz)
+              (omega (arith, small))
+              counted
+              fits
+              (by .along-x ∙ h);
+          along-y = λ h.
+              placeable s 1 (sides .nx) (3 * s + 1) _ (ltb (y + 1) (sides .ny)) r small (step-y size) past-y (crossed-y size above x y z hx hy hz)
+              (omega (arith, small))
+              one
+              fits
+              (by .along-y ∙ h);
+          along-z = λ h.
+              placeable s 2 (sides .nx * sides .ny) (3 * s + 2) _ (ltb (z + 1) (sides .nz)) r small (step-z size) past-z (crossed-z size above x y z hx hy hz)
+              (omega (arith, small))
+              two
+              fits
+              (by .along-z ∙ h);
         }
 
     pub sample-placeable : (at e n : ℕ) (cuts : Cuts) (r : Rooms) → at ≡ s → e ≡ 3 * s → n ≡ countBelow sides masks e → Tested sides masks e cuts

@@ -18,15 +18,6 @@ unfolding bit
 set-below m n all zero l = let e : (2 * m + 1) % 2 ≡ 1 = omega arith in rw e
 set-below m n all (suc i) l = let e : (2 * m + 1) / 2 ≡ m = omega arith in rw e (all i (omega arith))
 
-pub one-at-most : (b : Bool) → one-if b ≤ 1
-one-at-most true = omega arith
-one-at-most false = omega arith
-
-pub count-le : (n : ℕ) (p : ℕ → Bool) → countTo n p ≤ n
-unfolding countTo sumTo
-count-le zero p = omega arith
-count-le (suc n) p = omega (arith, count-le n p, one-at-most (p n))
-
 -- two remainders by 2 differ when one of them is 1 and the other not
 pub odd-differ : (p q : ℕ) → p < 2 → q < 2 → not (eqb p q) ≡ xor (eqb p 1) (eqb q 1)
 unfolding xor
@@ -38,17 +29,33 @@ odd-differ (suc zero) (suc zero) hp hq = refl
 odd-differ (suc zero) (suc (suc q)) hp hq = absurd (omega arith)
 odd-differ (suc (suc p)) q hp hq = absurd (omega arith)
 
+-- a bit of a number times another is at most that other
+pub bit-times : (k n : ℕ) → k % 2 * n ≤ n
+bit-times k n =
+    let small : k % 2 ≤ 1 = omega arith in
+    omega (arith, mul-le-mul-right n small)
+
+-- a count is at most the range
+pub one-at-most : (b : Bool) → one-if b ≤ 1
+one-at-most true = omega arith
+one-at-most false = omega arith
+
+pub count-le : (n : ℕ) (p : ℕ → Bool) → countTo n p ≤ n
+unfolding countTo sumTo
+count-le zero p = omega arith
+count-le (suc n) p = omega (arith, count-le n p, one-at-most (p n))
+
 -- nothing passes
 pub count-none : (n : ℕ) (p : ℕ → Bool) → ((i : ℕ) → i < n → p i ≡ false) → countTo n p ≡ 0
 unfolding countTo sumTo
 count-none zero p none = refl
 count-none (suc n) p none = rw (none n (omega arith)) (omega (arith, count-none n p (λ i l. none i (omega arith))))
 
--- a bit of a number times another is at most that other
-pub bit-times : (k n : ℕ) → k % 2 * n ≤ n
-bit-times k n =
-    let small : k % 2 ≤ 1 = omega arith in
-    omega (arith, mul-le-mul-right n small)
+-- nothing passes beyond n
+pub keep-none : (n len : ℕ) (p : ℕ → Bool) → ((i : ℕ) → i < len → p (n + i) ≡ false) → keepTo (n + len) p ≡ keepTo n p
+unfolding keepTo joinTo
+keep-none n zero p none = rw add-zero
+keep-none n (suc len) p none = rw (add-suc, none len (omega arith), append-nil) (keep-none n len p (λ i l. none i (omega arith)))
 
 -- a list made from a join of two lists
 flat-append : {A B : Type 0} (g : A → List B) (xs ys : List A) → flatMap g (xs ++ ys) ≡ flatMap g xs ++ flatMap g ys
@@ -69,12 +76,6 @@ pub flat-map : {A B C : Type 0} (g : B → List C) (f : A → B) (h : A → List
 unfolding flatMap
 flat-map g f h same [] = refl
 flat-map g f h same (x ∷ xs) = rw (same x, flat-map g f h same xs)
-
--- nothing passes beyond n
-pub keep-none : (n len : ℕ) (p : ℕ → Bool) → ((i : ℕ) → i < len → p (n + i) ≡ false) → keepTo (n + len) p ≡ keepTo n p
-unfolding keepTo joinTo
-keep-none n zero p none = rw add-zero
-keep-none n (suc len) p none = rw (add-suc, none len (omega arith), append-nil) (keep-none n len p (λ i l. none i (omega arith)))
 
 -- what elements become, written where what others became ended: one place each, or as many as the width
 pub map-sets : {A B : Type 0} (g : A → B) (room : List B) (n next : ℕ) (xs ys : List A) → next ≡ n + length xs

@@ -1,4 +1,5 @@
--- Lemmas of the walk over a grid's rows.
+-- Lemmas of the walk over a grid's rows: general laws; what is small and where rows begin; crossed edges by masks; the numbering; marks; the
+-- placing; the ends of a crossed edge.
 pub mod General
 pub mod Bounds
 pub mod Cut

@@ -1,5 +1,5 @@
 -- Steps of the placing: a point more, the edges of a sample, and a run of edges that are not crossed.
-use mathlib.Core.Path.{_≡_, refl, ap, _∙_}
+use mathlib.Core.Path.{_≡_, refl, ap, fun-ext, _∙_}
 use mathlib.Core.List.{List, [], _∷_, _++_, map, flatMap, map-append, map-map, map-id, append-nil}
 use mathlib.Core.Bool.{Bool, true, false, cond}
 use Prim.Native.Nat.{ℕ, _+_, _*_, _/_, _%_, _^_, _<_, _≤_}
@@ -30,18 +30,12 @@ pub offset-small : (v0 v1 grey : ℕ) → v0 < 2 ^ 16 → v1 < 2 ^ 16 → grey <
 unfolding offset
 offset-small v0 v1 grey a b c = omega (arith, div-le-self (2 * (unit * apart grey v0) + apart v1 v0) (2 * apart v1 v0))
 
--- the point that is made from the samples that were read
-point-is : (n : Size) (grey : ℕ) (samples : List ℕ) (s d e far : ℕ) → far ≡ stepOf n d
-    → pointBy n s d e (offset (getD samples s 0) (getD samples (s + far) 0) grey) ≡ pointFrom n grey samples s d e
+-- the point that was written, made from the samples that were read, as the definition has it
+pub point-written : (n : Size) (grey : ℕ) (samples : List ℕ) (s axis step number far : ℕ) (p : Point) (before after : Rooms) → step ≡ stepOf n axis
+    → far ≡ offset (getD samples s 0) (getD samples (s + step) 0) grey → p ≡ pointBy n s axis far → after ≡ written before number (p ∷ [])
+    → after ≡ written before number (pointFrom n grey samples s axis ∷ [])
 unfolding pointFrom otherEnd
-point-is n grey samples s d e far is = rw is
-
--- the point that was written, as the definition has it
-pub point-written : (n : Size) (grey : ℕ) (samples : List ℕ) (s d e far number along : ℕ) (p : Point) (before after : Rooms) → far ≡ stepOf n d
-    → along ≡ offset (getD samples s 0) (getD samples (s + far) 0) grey → p ≡ pointBy n s d e along → after ≡ written before number (p ∷ [])
-    → after ≡ written before number (pointFrom n grey samples s d e ∷ [])
-point-written n grey samples s d e far number along p before after step read made done =
-    done ∙ ap (λ p. written before number (p ∷ [])) (made ∙ ap (pointBy n s d e) read ∙ point-is n grey samples s d e far step)
+point-written n grey samples s axis step number far p before after is read made done = rw (done, made, read, is)
 
 -- rooms that keep their lengths keep their room
 pub record SameLengths (before after : Rooms) : Type 0 where
@@ -54,16 +48,16 @@ room-kept count before after same fits =
     record { points = omega (arith, fits .points); edges = omega (arith, fits .edges); marks = omega (arith, fits .marks) }
 
 -- what it takes to place a point stands when another edge was passed
-pub still-placeable : (samples : List ℕ) (s far n next : ℕ) (before after : Rooms) → SameLengths before after → next ≡ n
-    → Placeable samples s far n before → Placeable samples s far next after
-still-placeable samples s far n next before after same is able =
+pub still-placeable : (size : Size) (samples : List ℕ) (s axis n next : ℕ) (before after : Rooms) → SameLengths before after → next ≡ n
+    → Placeable size samples s axis n before → Placeable size samples s axis next after
+still-placeable size samples s axis n next before after same is able =
     rw is record { there = able .there; differ = able .differ; room = room-kept (n + 1) before after same (able .room) }
 
 -- the three edges of a sample one after the other
 pub sample-steps : (sides : Sides) (grey : ℕ) (samples : List ℕ) (s n : ℕ) (cuts : Cuts) (r : Rooms) (x y z : ℕ) (past-x past-y past-z : Rooms)
-    → x ≡ nextNumber (cuts .x) n → past-x ≡ withPoint (cuts .x) n (pointFrom (sizeOf sides) grey samples s 1 (3 * s)) r
-    → y ≡ nextNumber (cuts .y) x → past-y ≡ withPoint (cuts .y) x (pointFrom (sizeOf sides) grey samples s 2 (3 * s + 1)) past-x
-    → z ≡ nextNumber (cuts .z) y → past-z ≡ withPoint (cuts .z) y (pointFrom (sizeOf sides) grey samples s 4 (3 * s + 2)) past-y
+    → x ≡ nextNumber (cuts .x) n → past-x ≡ withPoint (cuts .x) n (pointFrom (sizeOf sides) grey samples s 0) r
+    → y ≡ nextNumber (cuts .y) x → past-y ≡ withPoint (cuts .y) x (pointFrom (sizeOf sides) grey samples s 1) past-x
+    → z ≡ nextNumber (cuts .z) y → past-z ≡ withPoint (cuts .z) y (pointFrom (sizeOf sides) grey samples s 2) past-y
     → SamplePlaced sides grey samples s n z cuts r past-z
 sample-steps sides grey samples s n cuts r x y z past-x past-y past-z nx px ny py nz pz = record { counted = cc; placed = cc }
 
@@ -131,19 +125,19 @@ module _ (sides : Sides) (grey : ℕ) (samples masks : List ℕ) where
   advanced-on a b c m n r s t one two = record { counted = two .counted; placed = λ origin held. two .placed origin (one .placed origin held) }
 
   -- the three edges that leave a sample
-  point-of : (s axis e same : ℕ) → axis < 3 → e ≡ 3 * s + axis → same ≡ e → pointFrom (sizeOf sides) grey samples s (2 ^ axis) same ≡ point e
+  point-of : (s axis e : ℕ) → axis < 3 → e ≡ 3 * s + axis → pointFrom (sizeOf sides) grey samples s axis ≡ point e
   unfolding pointAt
-  point-of s axis e same h is as-e =
+  point-of s axis e h is =
       let sample : e / 3 ≡ s = omega arith in
       let along : e % 3 ≡ axis = omega arith in
-      rw (sample, along, as-e)
+      rw (sample, along)
 
   pub sample-passed : (s e n next : ℕ) (cuts : Cuts) (r after : Rooms) → e ≡ 3 * s → n ≡ countBelow sides masks e → Tested sides masks e cuts
       → SamplePlaced sides grey samples s n next cuts r after → Advanced sides grey samples masks e (e + 3) next r after
   sample-passed s e n next cuts r after is counted by step =
-      let px = point-of s 0 e (3 * s) (omega arith) (omega arith) (omega arith) in
-      let py = point-of s 1 (e + 1) (3 * s + 1) (omega arith) (omega arith) (omega arith) in
-      let pz = point-of s 2 (e + 2) (3 * s + 2) (omega arith) (omega arith) (omega arith) in
+      let px = point-of s 0 e (omega arith) (omega arith) in
+      let py = point-of s 1 (e + 1) (omega arith) (omega arith) in
+      let pz = point-of s 2 (e + 2) (omega arith) (omega arith) in
       let two : e + 2 ≡ e + 1 + 1 = omega arith in
       let three : e + 3 ≡ e + 2 + 1 = omega arith in
       let x = edge-passed e (e + 1) n r (cuts .x) _ refl counted (by .along-x) px in
@@ -179,7 +173,9 @@ module _ (sides : Sides) (grey : ℕ) (samples masks : List ℕ) where
 
   edges-of : (es : List ℕ) → map (λ p. p .edge) (map point es) ≡ es
   unfolding pointAt pointFrom pointBy
-  edges-of es = map-map (λ p. p .edge) point es ∙ map-id es
+  edges-of es =
+      let same : _≡_ {A = ℕ → ℕ} (λ e. 3 * (e / 3) + e % 3) (λ e. e) = fun-ext (λ e. omega arith) in
+      map-map (λ p. p .edge) point es ∙ ap (λ f. map f es) same ∙ map-id es
 
   marks-of : (es : List ℕ) → map (λ p. p .mark) (map point es) ≡ map (mark axes (sizeOf sides)) es
   unfolding pointAt pointFrom pointBy mark onFace

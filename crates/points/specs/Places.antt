@@ -9,6 +9,7 @@ use Rattle.laws.specs.Range.{one-if, keepTo}
 use Rattle.grid.specs.Limits.{unit}
 use Rattle.grid.specs.Grid.{Size, site, coordinate, along, axes, otherEnd, sampleCount, edgeCount, crossed, someFace, onFaceFrom}
 use Rattle.grid.specs.Point.{offset, number}
+use Rattle.grid.specs.Work.{SidesFit}
 use Rattle.masks.specs.Masks.{maskAbove, Masked}
 use Rattle.points.specs.declared.rows.Sides.{Sides}
 use Rattle.points.specs.declared.rows.Cuts.{Cuts}
@@ -40,53 +41,55 @@ unfoldable pub written : Rooms → ℕ → List Point → Rooms
 written r n ps =
     rooms (sets (r .points) (3 * n) (flatMap coordinates ps)) (sets (r .edges) n (map (λ p. p .edge) ps)) (sets (r .marks) n (map (λ p. p .mark) ps))
 
--- the point on edge e, which leaves sample s in direction d, so far along it
-unfoldable pub pointBy : Size → ℕ → ℕ → ℕ → ℕ → Point
-pointBy n s d e far = record {
-  x = unit * coordinate n 0 s + along d 0 * far;
-  y = unit * coordinate n 1 s + along d 1 * far;
-  z = unit * coordinate n 2 s + along d 2 * far;
-  edge = e;
-  mark = one-if (someFace (λ axis last. onFaceFrom axes n axis last s d));
+-- the point on the edge that leaves sample s along an axis, so far along it
+unfoldable pub pointBy : Size → ℕ → ℕ → ℕ → Point
+pointBy n s axis far = record {
+  x = unit * coordinate n 0 s + along (2 ^ axis) 0 * far;
+  y = unit * coordinate n 1 s + along (2 ^ axis) 1 * far;
+  z = unit * coordinate n 2 s + along (2 ^ axis) 2 * far;
+  edge = 3 * s + axis;
+  mark = one-if (someFace (λ across last. onFaceFrom axes n across last s (2 ^ axis)));
 }
 
 -- the same, as far along it as its samples and the grey value say
-unfoldable pub pointFrom : Size → ℕ → List ℕ → ℕ → ℕ → ℕ → Point
-pointFrom n grey samples s d e = pointBy n s d e (offset (getD samples s 0) (getD samples (otherEnd n s d) 0) grey)
+unfoldable pub pointFrom : Size → ℕ → List ℕ → ℕ → ℕ → Point
+pointFrom n grey samples s axis = pointBy n s axis (offset (getD samples s 0) (getD samples (otherEnd n s (2 ^ axis)) 0) grey)
 
--- a sample stands at its coordinates
+-- a sample stands at its coordinates in a grid within the limits
 pub record Standing (sides : Sides) (at : Sample) : Type 0 where
+  pub fit : SidesFit (sides .nx) (sides .ny) (sides .nz)
   pub below-x : at .x < sides .nx
   pub below-y : at .y < sides .ny
   pub below-z : at .z < sides .nz
   pub site : at .s ≡ at .x + sides .nx * (at .y + sides .ny * at .z)
 
--- how much further on the other end of an edge in direction d stands
+-- how much further on the next sample along an axis stands
 abbrev pub stepOf : Size → ℕ → ℕ
-stepOf n d = site n (along d 0) (along d 1) (along d 2)
+stepOf n axis = site n (along (2 ^ axis) 0) (along (2 ^ axis) 1) (along (2 ^ axis) 2)
 
--- what it takes to place the next point on an edge: its two ends are samples that differ, and there is room
-pub record Placeable (samples : List ℕ) (s far n : ℕ) (r : Rooms) : Type 0 where
-  pub there : s + far < length samples
-  pub differ : getD samples s 0 ≡ getD samples (s + far) 0 → ⊥
+-- what it takes to place point n on the edge that leaves sample s along an axis: its two ends are samples that differ, and there is room
+pub record Placeable (size : Size) (samples : List ℕ) (s axis n : ℕ) (r : Rooms) : Type 0 where
+  pub there : s + stepOf size axis < length samples
+  pub differ : getD samples s 0 ≡ getD samples (s + stepOf size axis) 0 → ⊥
   pub room : RoomsFor (n + 1) r
+
+-- the same for the three edges that leave a sample, the first of whose points is point n
+pub record SamplePlaceable (sides : Sides) (samples : List ℕ) (s n : ℕ) (cuts : Cuts) (r : Rooms) : Type 0 where
+  pub along-x : cuts .x ≡ true → Placeable (sizeOf sides) samples s 0 n r
+  pub along-y : cuts .y ≡ true → Placeable (sizeOf sides) samples s 1 (nextNumber (cuts .x) n) r
+  pub along-z : cuts .z ≡ true → Placeable (sizeOf sides) samples s 2 (nextNumber (cuts .y) (nextNumber (cuts .x) n)) r
 
 -- the rooms past an edge: they change where the edge is crossed
 abbrev pub withPoint : Bool → ℕ → Point → Rooms → Rooms
 withPoint cut n p r = cond cut (written r n (p ∷ [])) r
 
--- the same for the three edges that leave a sample
-pub record SamplePlaceable (sides : Sides) (samples : List ℕ) (s n : ℕ) (cuts : Cuts) (r : Rooms) : Type 0 where
-  pub along-x : cuts .x ≡ true → Placeable samples s 1 n r
-  pub along-y : cuts .y ≡ true → Placeable samples s (sides .nx) (nextNumber (cuts .x) n) r
-  pub along-z : cuts .z ≡ true → Placeable samples s (sides .nx * sides .ny) (nextNumber (cuts .y) (nextNumber (cuts .x) n)) r
-
+-- the next number and the rooms past the three edges that leave a sample
 pub record SamplePlaced (sides : Sides) (grey : ℕ) (samples : List ℕ) (s n next : ℕ) (cuts : Cuts) (before after : Rooms) : Type 0 where
   pub counted : next ≡ nextNumber (cuts .z) (nextNumber (cuts .y) (nextNumber (cuts .x) n))
   pub placed : after
-      ≡ withPoint (cuts .z) (nextNumber (cuts .y) (nextNumber (cuts .x) n)) (pointFrom (sizeOf sides) grey samples s 4 (3 * s + 2))
-      (withPoint (cuts .y) (nextNumber (cuts .x) n) (pointFrom (sizeOf sides) grey samples s 2 (3 * s + 1))
-      (withPoint (cuts .x) n (pointFrom (sizeOf sides) grey samples s 1 (3 * s)) before))
+      ≡ withPoint (cuts .z) (nextNumber (cuts .y) (nextNumber (cuts .x) n)) (pointFrom (sizeOf sides) grey samples s 2)
+      (withPoint (cuts .y) (nextNumber (cuts .x) n) (pointFrom (sizeOf sides) grey samples s 1)
+      (withPoint (cuts .x) n (pointFrom (sizeOf sides) grey samples s 0) before))
 
 -- the samples are the grid's, and the masks say which of them are above
 pub record Given (sides : Sides) (grey : ℕ) (samples masks : List ℕ) : Type 0 where
@@ -103,7 +106,7 @@ countAll sides masks = countBelow sides masks (edgeCount axes (sizeOf sides))
 
 -- the points on the edges below e, in rising order
 unfoldable pub pointAt : Size → ℕ → List ℕ → ℕ → Point
-pointAt n grey samples e = pointFrom n grey samples (e / 3) (2 ^ (e % 3)) e
+pointAt n grey samples e = pointFrom n grey samples (e / 3) (e % 3)
 
 unfoldable pub pointsBelow : Sides → ℕ → List ℕ → List ℕ → ℕ → List Point
 pointsBelow sides grey samples masks e = map (pointAt (sizeOf sides) grey samples) (keepTo e (crossed axes (sizeOf sides) (maskAbove (sides .nx) masks)))

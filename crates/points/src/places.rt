@@ -5,6 +5,7 @@ ghost use mathlib.Core.Bool.{true, _&&_};
 ghost use Prim.Native.Nat.{_+_, _*_, _^_, _<_, _≤_};
 ghost use lib.Dec.{eqb};
 ghost use Rattle.laws.specs.Range.{one-if};
+ghost use Rattle.grid.specs.Limits.{mostSide};
 ghost use Rattle.grid.specs.Grid.{axes, isEnd, someFace, onFaceFrom};
 ghost use Rattle.grid.specs.Work.{SidesFit};
 ghost use Rattle.points.specs.Rows.{sizeOf, firstEdge};
@@ -26,13 +27,6 @@ pub struct Sample {
     pub z: usize,
 }
 
-// An edge that leaves a sample: its number, its direction (1 along x, 2 along y, 4 along z), and how much further on its other end stands.
-pub struct Edge {
-    pub e: u32,
-    pub d: u32,
-    pub far: usize,
-}
-
 // A point: its place, its grid edge and its mark.
 pub struct Point {
     pub x: u32,
@@ -45,7 +39,7 @@ pub struct Point {
 // Does an edge lie on an outer face across an axis? It stands at a coordinate, and runs so far along the axis.
 fn is_outer(along: u32, c: usize, side: usize) -> bool
     requires { ⌜ c < side ⌝ }
-    requires { ⌜ side ≤ 64 ⌝ }
+    requires { ⌜ side ≤ mostSide ⌝ }
     ensures { λ r. ⌜ r ≡ (eqb along 0 && isEnd c side) ⌝ }
 {
     if along == 0 {
@@ -54,9 +48,8 @@ fn is_outer(along: u32, c: usize, side: usize) -> bool
     false
 }
 
-// The mark of a point whose edge leaves a sample in a direction.
+// The mark of a point whose edge leaves a sample in a direction (1 along x, 2 along y, 4 along z).
 fn mark_of(sides: Sides, at: Sample, d: u32) -> u8
-    requires { ⌜ SidesFit (sides .nx) (sides .ny) (sides .nz) ⌝ }
     requires { ⌜ Standing sides at ⌝ }
     ensures { λ r. ⌜ r ≡ one-if (someFace (λ axis last. onFaceFrom axes (sizeOf sides) axis last (at .s) d)) ⌝ }
 {
@@ -72,19 +65,44 @@ fn mark_of(sides: Sides, at: Sample, d: u32) -> u8
     0
 }
 
-// The point on an edge, so far along it.
-fn point_on(sides: Sides, at: Sample, edge: Edge, offset: u32) -> Point
-    requires { ⌜ SidesFit (sides .nx) (sides .ny) (sides .nz) ⌝ }
-    requires { ⌜ Standing sides at ⌝ }
-    requires { ⌜ offset < 2 ^ 26 ⌝ }
-    ensures { λ r. ⌜ r ≡ pointBy (sizeOf sides) (at .s) (edge .d) (edge .e) offset ⌝ }
+// The direction along an axis.
+fn direction_of(axis: u32) -> u32
+    requires { ⌜ axis < 3 ⌝ }
+    ensures { λ r. ⌜ r ≡ 2 ^ axis ⌝ }
 {
-    let d = edge.d;
+    match axis {
+        0 => 1,
+        1 => 2,
+        _ => 4,
+    }
+}
+
+// How much further on the next sample along an axis stands.
+fn step_of(sides: Sides, axis: u32) -> usize
+    requires { ⌜ SidesFit (sides .nx) (sides .ny) (sides .nz) ⌝ }
+    requires { ⌜ axis < 3 ⌝ }
+    ensures { λ r. ⌜ r ≡ stepOf (sizeOf sides) axis ⌝ }
+{
+    match axis {
+        0 => 1,
+        1 => sides.nx,
+        _ => sides.nx * sides.ny,
+    }
+}
+
+// The point on the edge that leaves a sample along an axis, so far along it.
+fn point_on(sides: Sides, at: Sample, axis: u32, offset: u32) -> Point
+    requires { ⌜ Standing sides at ⌝ }
+    requires { ⌜ axis < 3 ⌝ }
+    requires { ⌜ offset < 2 ^ 26 ⌝ }
+    ensures { λ r. ⌜ r ≡ pointBy (sizeOf sides) (at .s) axis offset ⌝ }
+{
+    let d = direction_of(axis);
     Point {
         x: UNIT * (at.x as u32) + d % 2 * offset,
         y: UNIT * (at.y as u32) + d / 2 % 2 * offset,
         z: UNIT * (at.z as u32) + d / 4 % 2 * offset,
-        edge: edge.e,
+        edge: 3 * (at.s as u32) + axis,
         mark: mark_of(sides, at, d),
     }
 }
@@ -103,106 +121,70 @@ fn write_point(p: Point, n: usize, points: &mut [u32], edges: &mut [u32], marks:
     marks[n] = p.mark;
 }
 
-// Writes the point of an edge if the edge is crossed, and answers the number after it.
+// Writes the point of the edge that leaves a sample along an axis, if the edge is crossed, and answers the number after it.
 fn place_edge(
     cut: bool,
+    axis: u32,
     sides: Sides,
     grey: u16,
     at: Sample,
-    edge: Edge,
     n: usize,
     samples: &[u16],
     points: &mut [u32],
     edges: &mut [u32],
     marks: &mut [u8],
 ) -> usize
-    requires { ⌜ SidesFit (sides .nx) (sides .ny) (sides .nz) ⌝ }
     requires { ⌜ Standing sides at ⌝ }
-    requires { ⌜ edge .far ≡ stepOf (sizeOf sides) (edge .d) ⌝ }
-    requires { ⌜ (cut ≡ true → Placeable (now samples) (at .s) (edge .far) n (rooms (now points) (now edges) (now marks))) ⌝ }
+    requires { ⌜ axis < 3 ⌝ }
+    requires { ⌜ (cut ≡ true → Placeable (sizeOf sides) (now samples) (at .s) axis n (rooms (now points) (now edges) (now marks))) ⌝ }
     ensures { λ r. ⌜ r ≡ nextNumber cut n ⌝ }
     ensures { λ r. ⌜ rooms (now (points .exit)) (now (edges .exit)) (now (marks .exit))
-        ≡ withPoint cut n (pointFrom (sizeOf sides) grey (now (samples .entry)) (at .s) (edge .d) (edge .e))
+        ≡ withPoint cut n (pointFrom (sizeOf sides) grey (now (samples .entry)) (at .s) axis)
         (rooms (now (points .entry)) (now (edges .entry)) (now (marks .entry))) ⌝ }
 {
     if !cut {
         return n;
     }
     let s = at.s;
-    let other = s + edge.far;
+    let other = s + step_of(sides, axis);
     let offset = grid::offset(samples[s], samples[other], grey);
-    let p = point_on(sides, at, edge, offset);
+    let p = point_on(sides, at, axis, offset);
     write_point(p, n, points, edges, marks);
     n + 1
 }
 
-// The same at the three edges that leave a sample.
+// The same for the three edges that leave a sample.
 fn place_sample(
     cuts: Cuts,
     sides: Sides,
     grey: u16,
     at: Sample,
-    n: usize,
+    from: usize,
     samples: &[u16],
     points: &mut [u32],
     edges: &mut [u32],
     marks: &mut [u8],
 ) -> usize
-    requires { ⌜ SidesFit (sides .nx) (sides .ny) (sides .nz) ⌝ }
     requires { ⌜ Standing sides at ⌝ }
-    requires { ⌜ SamplePlaceable sides (now samples) (at .s) n cuts (rooms (now points) (now edges) (now marks)) ⌝ }
-    ensures { λ r. ⌜ SamplePlaced sides grey (now (samples .entry)) (at .s) n r cuts
+    requires { ⌜ SamplePlaceable sides (now samples) (at .s) from cuts (rooms (now points) (now edges) (now marks)) ⌝ }
+    ensures { λ r. ⌜ SamplePlaced sides grey (now (samples .entry)) (at .s) from r cuts
         (rooms (now (points .entry)) (now (edges .entry)) (now (marks .entry)))
         (rooms (now (points .exit)) (now (edges .exit)) (now (marks .exit))) ⌝ }
 {
-    let e = 3 * (at.s as u32);
-    let edge_x = Edge { e, d: 1, far: 1 };
-    let edge_y = Edge {
-        e: e + 1,
-        d: 2,
-        far: sides.nx,
-    };
-    let edge_z = Edge {
-        e: e + 2,
-        d: 4,
-        far: sides.nx * sides.ny,
-    };
-    let past_x = place_edge(
+    let n = place_edge(
         cuts.x,
+        0,
         sides,
         grey,
         at,
-        edge_x,
-        n,
+        from,
         samples,
         points,
         edges,
         marks,
     );
-    let past_y = place_edge(
-        cuts.y,
-        sides,
-        grey,
-        at,
-        edge_y,
-        past_x,
-        samples,
-        points,
-        edges,
-        marks,
-    );
-    place_edge(
-        cuts.z,
-        sides,
-        grey,
-        at,
-        edge_z,
-        past_y,
-        samples,
-        points,
-        edges,
-        marks,
-    )
+    let n = place_edge(cuts.y, 1, sides, grey, at, n, samples, points, edges, marks);
+    place_edge(cuts.z, 2, sides, grey, at, n, samples, points, edges, marks)
 }
 
 // The points of one row, from a number on. Answers the number after the last.

@@ -3,6 +3,7 @@ ghost use mathlib.Core.Path.{_≡_};
 ghost use mathlib.Core.Bool.{true, cond, _&&_};
 ghost use Prim.Native.Nat.{_+_, _*_, _<_, _≤_};
 ghost use lib.ListN.{getD};
+ghost use Rattle.grid.specs.Limits.{mostSide};
 ghost use Rattle.grid.specs.Work.{SidesFit};
 ghost use Rattle.points.specs.Rows.{AllSet, RowFrom, Quiet, parted, Parted, halvedOnce};
 
@@ -31,7 +32,7 @@ pub struct Cuts {
 
 // The mask whose bits below nx are all set.
 pub fn full_mask(nx: usize) -> u64
-    requires { ⌜ nx ≤ 64 ⌝ }
+    requires { ⌜ nx ≤ mostSide ⌝ }
     ensures { λ r. ⌜ AllSet nx r ⌝ }
 {
     let mut mask: u64 = 0;

@@ -23,7 +23,8 @@ use Rattle.triangles.specs.Row.{masksAt, rowCase, edgeOffset, cubeNumber
 use Rattle.triangles.specs.Walk.{LayerRoom, Written}
 use Rattle.triangles.proofs.General.{box-cong, map-box, flat-box, map-cong, length-flat, flat-renamed, join-room}
 use Rattle.triangles.proofs.Cases.{corners-crossed, case-of-masks}
-use Rattle.triangles.proofs.Edges.{offset-at, edge-place, edge-inside, edge-crossed}
+use Rattle.grid.proofs.Edges.{grid-edge-small, grid-edge-crossed}
+use Rattle.triangles.proofs.Edges.{offset-at, edge-place}
 use Rattle.triangles.proofs.Numbers.{written-on, written-length}
 
 -- the numbers of the first layers
@@ -44,14 +45,14 @@ module _ (nx ny nz : ℕ) (masks : List ℕ) where
 
     module _ (x y z : ℕ) (hx : x + 1 < nx) (hy : y + 1 < ny) (hz : z + 1 < nz) where
       pub read-inside : (e : ℕ) → e < 12 → 3 * nx * (ny * z + y) + 3 * x + getD offsets e 0 < length work
-      read-inside e h = omega (arith, read-at x y z e h, edge-inside n x y z hx hy hz e h, given .whole)
+      read-inside e h = omega (arith, read-at x y z e h, grid-edge-small n x y z hx hy hz e h, given .whole)
 
       -- what it finds there
       number-read : (e : ℕ) → CrossedEdge (caseAt n above x y z) e
           → getD work (3 * nx * (ny * z + y) + 3 * x + getD offsets e 0) 0 ≡ number axes n above (gridEdge n x y z e)
       number-read e c =
           ap (λ i. getD work i 0) (read-at x y z e (c .small))
-          ∙ given .ranks (gridEdge n x y z e) (edge-inside n x y z hx hy hz e (c .small)) (edge-crossed n x y z hx hy hz e (c .small) above (c .cut))
+          ∙ given .ranks (gridEdge n x y z e) (grid-edge-small n x y z hx hy hz e (c .small)) (grid-edge-crossed n x y z hx hy hz e (c .small) above (c .cut))
 
       cube-meshed : cubeNumbers offsets work (3 * nx * (ny * z + y) + 3 * x) (rowCase (masksAt masks ny (ny * z + y)) x)
           ≡ flat (map (rename (number axes n above)) (cubeTriangles n above x y z))

@@ -32,7 +32,7 @@ placing c = c .before .before .before .before
 abbrev placed : tie.After-write-arg2 → tie.After-place
 placed c = c .before .before .before .before .before .before .before .before .before
 
-abbrev written : tie.After-clear3 → tie.After-write
+abbrev written : tie.After-clear → tie.After-write
 written c = c .before .before .before .before
 
 -- the rooms as they were lent
@@ -84,32 +84,30 @@ least-requires-2 c κs = search needs
 exceeds-requires : tie.Need-exceeds-requires
 exceeds-requires c κs = search needs
 
-clear-requires : tie.Need-clear-requires
-clear-requires c κs = search needs
-
-refused-requires : tie.Need-refused-requires
-refused-requires c κs = search needs
+refused-later-requires : tie.Need-refused-later-requires
+refused-later-requires c κs = search needs
 
 same-length : tie.Need-same-length
 same-length c = search needs
 
 returns : tie.Need-returns
 returns c =
-    let clear = c .before .before .before in
-    let tests = clear .before .before .before in
+    let later = c .before .before in
+    let tests = later .before .before .before in
     let n = numbered tests in
     let f = masked n in
     let s = begun f in
     let a = s .args in
-    rw (c .refused .ensures .0, c .refused .ensures .1, c .refused .ensures .2)
+    let answer = later .refused-later .ensures .0 in
+    rw (answer .0, answer .1, answer .2)
     (too-many-points (a .nx) (a .ny) (a .nz) (a .grey) (a .samples .now) (f .fill .last .1 .1 .1 .1 .0) (s .pre .0) (f .fill .ensures) (lent s)
     (n .number .result)
     (tests .before .least2 .result)
-    (clear .clear .last .0)
+    (later .refused-later .last .1 .0)
     (n .number .ensures .0)
     (room-is tests)
-    (sym (tests .exceeds .ensures) ∙ clear .before .before .if1 .taken)
-    (clear .clear .ensures ∙ ap (λ k. replicate k 0) (work-kept n)))
+    (sym (tests .exceeds .ensures) ∙ later .before .before .if1 .taken)
+    (later .refused-later .ensures .1 ∙ ap (λ k. replicate k 0) (work-kept n)))
 
 count-requires : tie.Need-count-requires
 count-requires c κs = search needs
@@ -117,36 +115,34 @@ count-requires c κs = search needs
 exceeds-requires-2 : tie.Need-exceeds-requires-2
 exceeds-requires-2 c κs = search needs
 
-clear-requires-2 : tie.Need-clear-requires-2
-clear-requires-2 c κs = search needs
-
-refused-requires-2 : tie.Need-refused-requires-2
-refused-requires-2 c κs = search needs
+refused-later-requires-2 : tie.Need-refused-later-requires-2
+refused-later-requires-2 c κs = search needs
 
 same-length-2 : tie.Need-same-length-2
 same-length-2 c = search needs
 
 returns-2 : tie.Need-returns-2
 returns-2 c =
-    let clear = c .before .before .before in
-    let made = clear .before .before .before in
+    let later = c .before .before in
+    let made = later .before .before .before in
     let tests = counted made in
     let n = numbered tests in
     let f = masked n in
     let s = begun f in
     let a = s .args in
-    rw (c .refused2 .ensures .0, c .refused2 .ensures .1, c .refused2 .ensures .2)
+    let answer = later .refused-later2 .ensures .0 in
+    rw (answer .0, answer .1, answer .2)
     (too-many-triangles (a .nx) (a .ny) (a .nz) (a .grey) (a .samples .now) (f .fill .last .1 .1 .1 .1 .0) (s .pre .0) (f .fill .ensures) (lent s)
     (n .number .result)
     (made .before .count .result)
     (tests .before .least2 .result)
-    (clear .clear2 .last .0)
+    (later .refused-later2 .last .1 .0)
     (n .number .ensures .0)
     (room-is tests)
     (points-fit made)
     (made .before .count .ensures)
-    (sym (made .exceeds2 .ensures) ∙ clear .before .before .if2 .taken)
-    (clear .clear2 .ensures ∙ ap (λ k. replicate k 0) (work-kept n)))
+    (sym (made .exceeds2 .ensures) ∙ later .before .before .if2 .taken)
+    (later .refused-later2 .ensures .1 ∙ ap (λ k. replicate k 0) (work-kept n)))
 
 place-requires : tie.Need-place-requires
 place-requires c κs =
@@ -177,8 +173,8 @@ write-requires c κs =
       ),
     )
 
-clear-requires-3 : tie.Need-clear-requires-3
-clear-requires-3 c κs = search needs
+clear-requires : tie.Need-clear-requires
+clear-requires c κs = search needs
 
 same-length-3 : tie.Need-same-length-3
 same-length-3 c = search needs
@@ -195,7 +191,7 @@ same-length-6 c = search needs
 same-length-7 : tie.Need-same-length-7
 same-length-7 c =
     let clear = c .before .before in
-    ap length (clear .clear3 .ensures) ∙ length-replicate _ 0 ∙ work-kept (numbered (counted (placing (placed (written clear .before) .before) .before)))
+    ap length (clear .clear .ensures) ∙ length-replicate _ 0 ∙ work-kept (numbered (counted (placing (placed (written clear .before) .before) .before)))
 
 returns-3 : tie.Need-returns-3
 returns-3 c =
@@ -223,7 +219,7 @@ returns-3 c =
     (place .place .ensures .1 .0)
     (place .place .ensures .1 .1)
     (write .write .ensures)
-    (clear .clear3 .ensures ∙ ap (λ k. replicate k 0) (work-kept n))
+    (clear .clear .ensures ∙ ap (λ k. replicate k 0) (work-kept n))
 
 pub measured-spec : {M : Type 1} → statement M
 measured-spec =
@@ -236,19 +232,17 @@ measured-spec =
     least-requires
     least-requires-2
     exceeds-requires
-    clear-requires
-    refused-requires
+    refused-later-requires
     same-length
     returns
     count-requires
     exceeds-requires-2
-    clear-requires-2
-    refused-requires-2
+    refused-later-requires-2
     same-length-2
     returns-2
     place-requires
     write-requires
-    clear-requires-3
+    clear-requires
     same-length-3
     same-length-4
     same-length-5

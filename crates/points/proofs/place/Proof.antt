@@ -73,7 +73,9 @@ place-layer-requires c κs =
     (given f, (c .before .before .before .loop-test .taken, (fits, l .loop .inv .2 .counted)))
 
 add-z : tie.Need-add-z Inv-loop μ-loop
-add-z c = omega (arith, start (c .before .before .before .before .before .before .before .before .before .before .before .before) .pre .0 .most-z, c .before .before .before .before .before .before .before .before .before .before .loop-test .taken)
+add-z c =
+    let t = c .before .before .before .before .before .before .before .before .before .before in
+    omega (arith, start (t .before .before) .pre .0 .most-z, t .loop-test .taken)
 
 loop-less : tie.Need-loop-less Inv-loop μ-loop
 loop-less c = omega (arith, c .before .before .before .before .before .before .before .before .before .before .loop-test .taken)
@@ -119,7 +121,11 @@ returns c =
     let masks = now (a .masks) in
     let after = loop-rooms l in
     let last : l .loop .z ≡ s .nz = omega (arith, l .loop .inv .0) in
-    let held = all-placed s (a .grey) samples masks (firstEdge s 0 0) (firstEdge s 0 (l .loop .z)) (l .loop .n) (first-rooms f) after (first-row s) (ap (firstEdge s 0) last ∙ past-last s) (l .loop .inv .2) in (
+    let held =
+    all-placed s (a .grey) samples masks (firstEdge s 0 0) (firstEdge s 0 (l .loop .z)) (l .loop .n) (first-rooms f) after
+    (first-row s)
+    (ap (firstEdge s 0) last ∙ past-last s)
+    (l .loop .inv .2) in (
       places-laid s (a .grey) samples masks (first-rooms f) after held (pre .0),
       (edges-laid s (a .grey) samples masks (first-rooms f) after held (pre .1 .0), marks-laid s (a .grey) samples masks (first-rooms f) after held (pre .1 .1)),
     )

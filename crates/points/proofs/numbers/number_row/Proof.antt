@@ -121,12 +121,18 @@ loop-again c =
     let s = start l in
     let a = s .args in
     let cuts = c .before .before .before .before .before .cuts-at in
-    let row = l .loop .inv .2 in (
+    let row = l .loop .inv .2 in
+    let by =
+    tested (a .sides) (now (a .masks)) (l .loop .x) (a .y) (a .z) (sample-there t) (s .pre .1 .0) (s .pre .1 .1 .0) (l .loop .row) row
+    (cuts .result)
+    (cuts .ensures)
+    (l .loop .e)
+    (l .loop .inv .1) in (
       omega (arith, sample-there t),
       omega (arith, l .loop .inv .1),
       rw (c .passed .ensures) (row-next (a .sides .ny) (a .sides .nz) (now (a .masks)) (a .y) (a .z) (l .loop .x) (l .loop .row) row),
       sample-passed (a .sides) (now (a .masks)) (l .loop .e) (l .loop .n) _ (l .loop .work) _ (cuts .result) (l .loop .inv .3) (edges-there t)
-          (tested (a .sides) (now (a .masks)) (l .loop .x) (a .y) (a .z) (sample-there t) (s .pre .1 .0) (s .pre .1 .1 .0) (l .loop .row) row (cuts .result) (cuts .ensures) (l .loop .e) (l .loop .inv .1))
+          by
           (c .before .before .before .number-sample .ensures),
     )
 

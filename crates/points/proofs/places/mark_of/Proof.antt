@@ -16,7 +16,7 @@ faces : (s : tie.Start)
     || ((eqb (s .args .d / 2 % 2) 0 && isEnd (s .args .at .y) (s .args .sides .ny)) || (eqb (s .args .d / 4 % 2) 0 && isEnd (s .args .at .z) (s .args .sides .nz))))
 faces s =
     let a = s .args in
-    let at = s .pre .1 in
+    let at = s .pre in
     some-face (sizeOf (a .sides)) (a .at .s) (a .at .x) (a .at .y) (a .at .z) (at .site) (at .below-x) (at .below-y) (at .below-z) (a .d)
 
 is-outer-requires : tie.Need-is-outer-requires

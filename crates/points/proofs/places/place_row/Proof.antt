@@ -130,21 +130,18 @@ place-sample-requires c κs =
     let a = s .args in
     let so = l .loop .inv .4 in
     let fits = room-kept (countAll (a .sides) (now (a .masks))) (first-rooms s) (loop-rooms l) (l .loop .inv .3) (s .pre .1 .1 .1 .0) in (
-      s .pre .0 .ready .fit,
-      (
-        record { below-x = sample-there t; below-y = s .pre .1 .0; below-z = s .pre .1 .1 .0; site = l .loop .inv .1 },
-        sample-placeable (a .sides) (a .grey) (now (a .samples)) (now (a .masks)) (s .pre .0) (l .loop .x) (a .y) (a .z) (sample-there t) (s .pre .1 .0) (s .pre .1 .1 .0)
-            (l .loop .s)
-            (3 * l .loop .s)
-            (l .loop .n)
-            (cuts .cuts-at .result)
-            (loop-rooms l)
-            (l .loop .inv .1)
-            (ap (_*_ 3) (l .loop .inv .1))
-            (so .counted)
-            (cuts-tested cuts)
-            fits,
-      ),
+      record { fit = s .pre .0 .ready .fit; below-x = sample-there t; below-y = s .pre .1 .0; below-z = s .pre .1 .1 .0; site = l .loop .inv .1 },
+      sample-placeable (a .sides) (a .grey) (now (a .samples)) (now (a .masks)) (s .pre .0) (l .loop .x) (a .y) (a .z) (sample-there t) (s .pre .1 .0) (s .pre .1 .1 .0)
+          (l .loop .s)
+          (3 * l .loop .s)
+          (l .loop .n)
+          (cuts .cuts-at .result)
+          (loop-rooms l)
+          (l .loop .inv .1)
+          (ap (_*_ 3) (l .loop .inv .1))
+          (so .counted)
+          (cuts-tested cuts)
+          fits,
     )
 
 passed-requires : tie.Need-passed-requires Inv-loop μ-loop
