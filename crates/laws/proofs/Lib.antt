@@ -8,6 +8,7 @@ pub mod Rearranged
 pub mod Binary
 pub mod Halves
 pub mod Words
+pub mod Scan
 pub mod Rooms
 pub mod Writes
 pub mod Sides
