@@ -45,6 +45,16 @@ uint32_t tholbrina_extract(uint32_t nx, uint32_t ny, uint32_t nz, uint16_t grey,
                            uint32_t *work, size_t work_len,
                            uint32_t *point_count, uint32_t *triangle_count);
 
+/* One point's coordinates out of the raw list of points (second 0) or the smoothed one (any other value).
+ *
+ * Refusals, in this order; each leaves *x, *y and *z as they were:
+ *   6   the lists differ in length, or their length is not a multiple of three
+ *   14  point is not below the third of that length */
+uint32_t tholbrina_show(const uint32_t *raw, size_t raw_len,
+                        const uint32_t *smoothed, size_t smoothed_len,
+                        uint32_t second, uint32_t point,
+                        uint32_t *x, uint32_t *y, uint32_t *z);
+
 #ifdef __cplusplus
 }
 #endif

@@ -1,9 +1,10 @@
 -- A test over a whole range, a whole list or all rows of Booleans, closed by one computation, put to use at one entry.
-use mathlib.Core.Path.{_≡_, refl}
-use mathlib.Core.Bool.{Bool, true, false, _&&_, and-eq-true-iff}
+use mathlib.Core.Path.{_≡_, refl, sym}
+use mathlib.Core.Bool.{Bool, true, false, _&&_, and-eq-true-iff, and-false}
 use mathlib.Core.List.{List, [], _∷_}
-use Prim.Native.Nat.{ℕ, zero, suc, _<_}
+use Prim.Native.Nat.{ℕ, zero, suc, _+_, _<_}
 use native.Mathlib.Decide.{decLt}
+use native.Mathlib.Numerals.{add-one}
 use native.Mathlib.Omega.{arith}
 use lib.Dec.{eqb}
 use lib.ListN.{length}
@@ -54,3 +55,24 @@ eqb-same a b c d there back = go (eqb c d) refl
     go : (t : Bool) → eqb c d ≡ t → eqb a b ≡ t
     go true e = eq-eqb a b (back (eqb-true c d e))
     go false e = ne-eqb a b (λ h. eqb-false c d e (there h))
+
+-- a test along a range: nothing tested, one number more, one that fails, and all of them tested
+pub all-none : (p : ℕ → Bool) → allTo 0 p ≡ true
+unfolding allTo
+all-none p = refl
+
+pub all-more : (n : ℕ) (p : ℕ → Bool) → allTo n p ≡ true → p n ≡ true → allTo (n + 1) p ≡ true
+unfolding allTo
+all-more n p h t = rw (add-one n) (rw (t, h))
+
+pub all-fails : (n k : ℕ) (p : ℕ → Bool) → k < n → p k ≡ false → allTo n p ≡ false
+unfolding allTo
+all-fails zero k p l f = absurd (omega arith)
+all-fails (suc n) k p l f = go (decLt k n) (λ l′. all-fails n k p l′ f)
+  where
+    go : Dec (k < n) → (k < n → allTo n p ≡ false) → (p n && allTo n p) ≡ false
+    go (yes l′) below = rw (below l′) (and-false (p n))
+    go (no ge) below = let q : n ≡ k = omega arith in rw (q, f)
+
+pub all-done : (n k : ℕ) (p : ℕ → Bool) → k ≡ n → allTo k p ≡ true → allTo n p ≡ true
+all-done n k p q h = rw (sym q) h

@@ -1,6 +1,8 @@
 // The C functions that a viewer links. Each is a thin call of the one below it.
 ghost use Rattle.cube.specs.Promise.{Counted, EdgeRead};
 ghost use Rattle.extract.specs.Promise.{rooms, left, Extracts};
+ghost use Rattle.smooth.specs.Promise.{Shows};
+ghost use mathlib.Core.List.{[], _∷_};
 
 // How many triangles a case has: 0 to 5.
 #[no_mangle]
@@ -56,4 +58,28 @@ pub extern "C" fn tholbrina_extract(
     *point_count = done.points;
     *triangle_count = done.triangles;
     done.number
+}
+
+// One point's coordinates out of the raw list, or out of the smoothed one if `second` is not 0. Answers 0 if granted, else the
+// refusal's number; x, y and z stay after a refusal.
+#[no_mangle]
+pub extern "C" fn tholbrina_show<'a>(
+    raw: &'a [u32],
+    smoothed: &'a [u32],
+    second: u32,
+    point: u32,
+    x: &mut u32,
+    y: &mut u32,
+    z: &mut u32,
+) -> u32
+    ensures { λ r. ⌜ Shows (now (raw .entry)) (now (smoothed .entry)) second point (now (x .entry) ∷ now (y .entry) ∷ now (z .entry) ∷ []) r (now (x .exit) ∷ now (y .exit) ∷ now (z .exit) ∷ []) ⌝ }
+{
+    let mut number = 0;
+    let part = smooth::show(raw, smoothed, second != 0, point, &mut number);
+    if number == 0 {
+        *x = part[0];
+        *y = part[1];
+        *z = part[2];
+    }
+    number
 }

@@ -25,6 +25,17 @@ mod declared {
             point_count: *mut u32,
             triangle_count: *mut u32,
         ) -> u32;
+        pub fn tholbrina_show(
+            raw: *const u32,
+            raw_len: usize,
+            smoothed: *const u32,
+            smoothed_len: usize,
+            second: u32,
+            point: u32,
+            x: *mut u32,
+            y: *mut u32,
+            z: *mut u32,
+        ) -> u32;
     }
 }
 
@@ -72,6 +83,29 @@ pub fn extract(
             work.len(),
             point_count,
             triangle_count,
+        )
+    }
+}
+
+pub fn show(
+    raw: &[u32],
+    smoothed: &[u32],
+    second: u32,
+    point: u32,
+    [x, y, z]: &mut [u32; 3],
+) -> u32 {
+    // SAFETY: each slice is lent for the call with its own length, the three numbers are different places, and the function has no requirement.
+    unsafe {
+        declared::tholbrina_show(
+            raw.as_ptr(),
+            raw.len(),
+            smoothed.as_ptr(),
+            smoothed.len(),
+            second,
+            point,
+            x,
+            y,
+            z,
         )
     }
 }

@@ -52,3 +52,9 @@ pub fn extract(sides: [u32; 3], grey: u16, samples: &[u16], rooms: Rooms<'_>) ->
         triangles,
     }
 }
+
+/// One point's coordinates out of the raw list, or out of the smoothed one if `second` is not 0. Answers 0 if granted, else the refusal's
+/// number, and the place stays.
+pub fn show(raw: &[u32], smoothed: &[u32], second: u32, point: u32, place: &mut [u32; 3]) -> u32 {
+    c::show(raw, smoothed, second, point, place)
+}

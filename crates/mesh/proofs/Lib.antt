@@ -1,0 +1,2 @@
+-- The check has one answer.
+pub mod Outcome
