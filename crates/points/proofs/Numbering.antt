@@ -17,7 +17,7 @@ use Rattle.masks.specs.Masks.{maskAbove}
 use Rattle.points.specs.declared.rows.Sides.{Sides}
 use Rattle.points.specs.declared.rows.Cuts.{Cuts}
 use Rattle.points.specs.Rows.{sizeOf}
-use Rattle.points.specs.Numbers.{nextNumber, withNumber, SampleNumbered, NumberedTo}
+use Rattle.points.specs.Numbers.{nextNumber, SampleNumbered, NumberedTo}
 use Rattle.points.proofs.Cut.{Tested}
 use Rattle.points.proofs.General.{count-le, count-none}
 
@@ -41,10 +41,10 @@ module _ (sides : Sides) (masks : List ℕ) where
   unfolding number
   numbers-few e n work so = omega (arith, so .counted, count-le e cut)
 
-  -- an edge that is crossed, and a run of edges that are not
-  cut-passed : (e n : ℕ) (work : List ℕ) → NumberedTo sides masks e n work → e < edgeCount axes (sizeOf sides) → cut e ≡ true
-      → NumberedTo sides masks (e + 1) (n + 1) (set work e n)
-  cut-passed e n work so h is = record {
+  -- an edge, at which a number is written whether it is crossed or not, and a run of edges that are not
+  edge-passed : (e n : ℕ) (work : List ℕ) → NumberedTo sides masks e n work → e < edgeCount axes (sizeOf sides) → (b : Bool) → cut e ≡ b
+      → NumberedTo sides masks (e + 1) (nextNumber b n) (set work e n)
+  edge-passed e n work so h b is = record {
     whole = length-set work e n ∙ so .whole;
     counted = omega (arith, rank-next e, ap one-if is, so .counted);
     ranks = λ i l t. at i l t (decLt i e);
@@ -69,13 +69,6 @@ module _ (sides : Sides) (masks : List ℕ) where
       at i l t (no not-below) =
           let q : e + (i - e) ≡ i = omega arith in
           absurd (true≢false (sym t ∙ ap cut (sym q) ∙ none (i - e) (omega arith)))
-
-  edge-passed : (e n : ℕ) (work : List ℕ) → NumberedTo sides masks e n work → e < edgeCount axes (sizeOf sides) → (b : Bool) → cut e ≡ b
-      → NumberedTo sides masks (e + 1) (nextNumber b n) (withNumber b e n work)
-  edge-passed e n work so h true is = cut-passed e n work so h is
-  edge-passed e n work so h false is =
-      let q : n + 0 ≡ n = omega arith in
-      rw q (none-passed e n work so 1 (λ i l. let z : e + i ≡ e = omega arith in rw z is))
 
   -- the three edges that leave a sample
   pub sample-passed : (e n next : ℕ) (work after : List ℕ) (cuts : Cuts) → NumberedTo sides masks e n work → e + 2 < edgeCount axes (sizeOf sides)

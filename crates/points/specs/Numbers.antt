@@ -1,7 +1,7 @@
 -- The work room while the points are numbered.
 use mathlib.Core.Path.{_≡_}
 use mathlib.Core.List.{List}
-use mathlib.Core.Bool.{Bool, true, cond}
+use mathlib.Core.Bool.{Bool, true}
 use Prim.Native.Nat.{ℕ, _+_, _*_, _<_}
 use lib.ListN.{length, getD, set}
 use Rattle.laws.specs.Range.{one-if}
@@ -17,19 +17,14 @@ use Rattle.points.specs.Rows.{sizeOf}
 abbrev pub mostEdges : ℕ
 mostEdges = 3 * (mostSide * (mostSide * mostSide))
 
--- the next number past an edge, and the room with the edge's number in it: both change where the edge is crossed
+-- the next number past an edge, which counts where the edge is crossed
 abbrev pub nextNumber : Bool → ℕ → ℕ
 nextNumber cut n = n + one-if cut
 
-abbrev pub withNumber : Bool → ℕ → ℕ → List ℕ → List ℕ
-withNumber cut e n work = cond cut (set work e n) work
-
--- the same past the three edges that leave a sample, of which e is the first
+-- the next number past the three edges that leave a sample, of which e is the first, and the room with a number written at each
 pub record SampleNumbered (cuts : Cuts) (e n next : ℕ) (before after : List ℕ) : Type 0 where
   pub counted : next ≡ nextNumber (cuts .z) (nextNumber (cuts .y) (nextNumber (cuts .x) n))
-  pub written : after
-      ≡ withNumber (cuts .z) (e + 2) (nextNumber (cuts .y) (nextNumber (cuts .x) n))
-      (withNumber (cuts .y) (e + 1) (nextNumber (cuts .x) n) (withNumber (cuts .x) e n before))
+  pub written : after ≡ set (set (set before e n) (e + 1) (nextNumber (cuts .x) n)) (e + 2) (nextNumber (cuts .y) (nextNumber (cuts .x) n))
 
 -- the room holds the numbers of the points on the edges below e, and there are so many of them
 pub record NumberedTo (sides : Sides) (masks : List ℕ) (e count : ℕ) (work : List ℕ) : Type 0 where

@@ -1,9 +1,8 @@
--- The rows of a grid as masks, while a walk passes their samples one by one.
+-- The rows of a grid as masks, while a walk passes their samples.
 use mathlib.Core.Path.{_≡_}
-use mathlib.Core.Logic.{_⊎_}
 use mathlib.Core.List.{List}
-use mathlib.Core.Bool.{Bool, true, cond, _&&_, xor}
-use Prim.Native.Nat.{ℕ, _+_, _*_, _/_, _%_, _<_}
+use mathlib.Core.Bool.{Bool, true, false, cond, _&&_, xor}
+use Prim.Native.Nat.{ℕ, _+_, _*_, _/_, _%_, _^_}
 use lib.Dec.{eqb, ltb}
 use lib.ListN.{getD}
 use Rattle.laws.specs.Bits.{bit, halved}
@@ -13,9 +12,9 @@ use Rattle.points.specs.declared.rows.Sides.{Sides}
 use Rattle.points.specs.declared.rows.Row.{Row}
 use Rattle.points.specs.declared.rows.Cuts.{Cuts}
 
--- the bits below nx are all set
+-- the bits below nx are set, and no others
 abbrev pub AllSet : ℕ → ℕ → Type 0
-AllSet nx mask = (x : ℕ) → x < nx → bit mask x ≡ true
+AllSet nx mask = (x : ℕ) → bit mask x ≡ ltb x nx
 
 -- the sides are within the limits, and the full mask is theirs
 pub record Ready (sides : Sides) : Type 0 where
@@ -45,11 +44,12 @@ pub record RowFrom (ny nz : ℕ) (masks : List ℕ) (y z x : ℕ) (row : Row) : 
   pub behind : row .behind ≡ halved (behindMask ny masks y z) x
   pub over : row .over ≡ halved (overMask ny nz masks y z) x
 
--- the samples of the row and of its neighbours are all below, or all above
-pub record Quiet (full : ℕ) (row : Row) : Type 0 where
-  pub same-y : row .here ≡ row .behind
-  pub same-z : row .here ≡ row .over
-  pub whole : (row .here ≡ 0) ⊎ (row .here ≡ full)
+-- the word's bits are set within the full mask alone, and where one is not set the sample's neighbours are above or below as it is
+pub record Busy (full : ℕ) (row : Row) (word : ℕ) : Type 0 where
+  pub within : (x : ℕ) → bit word x ≡ true → bit full x ≡ true
+  pub same-x : (x : ℕ) → bit full x ≡ true → bit word x ≡ false → bit (row .here) x ≡ bit (row .here) (x + 1)
+  pub same-y : (x : ℕ) → bit full x ≡ true → bit word x ≡ false → bit (row .here) x ≡ bit (row .behind) x
+  pub same-z : (x : ℕ) → bit full x ≡ true → bit word x ≡ false → bit (row .here) x ≡ bit (row .over) x
 
 -- do the lowest bits of two masks differ
 abbrev pub parted : ℕ → ℕ → Bool
@@ -61,5 +61,6 @@ pub record Parted (more : Bool) (row : Row) (cuts : Cuts) : Type 0 where
   pub along-y : cuts .y ≡ parted (row .here) (row .behind)
   pub along-z : cuts .z ≡ parted (row .here) (row .over)
 
-abbrev pub halvedOnce : Row → Row
-halvedOnce row = record { here = row .here / 2; behind = row .behind / 2; over = row .over / 2 }
+-- the row with its first x samples passed
+abbrev pub halvedBy : Row → ℕ → Row
+halvedBy row x = record { here = row .here / 2 ^ x; behind = row .behind / 2 ^ x; over = row .over / 2 ^ x }

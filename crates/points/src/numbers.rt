@@ -1,29 +1,26 @@
 // The points' numbers, written row by row at their grid edges.
 ghost use mathlib.Core.Path.{_≡_};
 ghost use Prim.Native.Nat.{_+_, _<_, _≤_};
-ghost use lib.ListN.{length};
+ghost use lib.ListN.{length, set};
 ghost use Rattle.points.specs.Rows.{Ready, firstEdge};
-ghost use Rattle.points.specs.Numbers.{mostEdges, nextNumber, withNumber, SampleNumbered, NumberedTo};
+ghost use Rattle.points.specs.Numbers.{mostEdges, nextNumber, SampleNumbered, NumberedTo};
 use crate::rows::Cuts;
 use crate::rows::Sides;
+use crate::rows::busy_word;
 use crate::rows::cuts_at;
-use crate::rows::is_quiet;
 use crate::rows::passed;
 use crate::rows::row_at;
 
-// Writes the next number at an edge if it is crossed, and answers the number after it.
+// Writes the next number at an edge, and answers the number after it: the same one again where the edge is not crossed.
 fn number_edge(cut: bool, e: usize, n: u32, work: &mut [u32]) -> u32
     requires { ⌜ n ≤ e ⌝ }
     requires { ⌜ e < length (now work) ⌝ }
     requires { ⌜ length (now work) ≤ mostEdges ⌝ }
     ensures { λ r. ⌜ r ≡ nextNumber cut n ⌝ }
-    ensures { λ r. ⌜ now (work .exit) ≡ withNumber cut e n (now (work .entry)) ⌝ }
+    ensures { λ r. ⌜ now (work .exit) ≡ set (now (work .entry)) e n ⌝ }
 {
-    if cut {
-        work[e] = n;
-        return n + 1;
-    }
-    n
+    work[e] = n;
+    if cut { n + 1 } else { n }
 }
 
 // The same at the three edges that leave a sample, of which e is the first.
@@ -38,7 +35,7 @@ fn number_sample(cuts: Cuts, e: usize, n: u32, work: &mut [u32]) -> u32
     number_edge(cuts.z, e + 2, past_y, work)
 }
 
-// The points of one row, from a number on. Answers the number after the last.
+// The points of one row, from a number on, at one busy sample after the other. Answers the number after the last.
 fn number_row(
     sides: Sides,
     y: usize,
@@ -53,19 +50,18 @@ fn number_row(
     requires { ⌜ NumberedTo sides (now masks) (firstEdge sides y z) from (now work) ⌝ }
     ensures { λ r. ⌜ NumberedTo sides (now (masks .entry)) (firstEdge sides (y + 1) z) r (now (work .exit)) ⌝ }
 {
-    let mut row = row_at(sides, y, z, masks);
-    if is_quiet(row, sides.full) {
-        return from;
-    }
+    let row = row_at(sides, y, z, masks);
+    let first = 3 * (sides.nx * (y + sides.ny * z));
+    let mut busy = busy_word(row, sides.full);
     let mut n = from;
-    let mut e = 3 * (sides.nx * (y + sides.ny * z));
-    let mut x: usize = 0;
-    while x < sides.nx {
-        let cuts = cuts_at(x + 1 < sides.nx, row);
-        n = number_sample(cuts, e, n, work);
-        row = passed(row);
-        e += 3;
-        x += 1;
+    let mut next: usize = 0;
+    while busy != 0 {
+        let skip = u64::trailing_zeros(busy) as usize;
+        let x = next + skip;
+        let cuts = cuts_at(x + 1 < sides.nx, passed(row, x));
+        n = number_sample(cuts, first + 3 * x, n, work);
+        busy = (busy >> skip) / 2;
+        next = x + 1;
     }
     n
 }

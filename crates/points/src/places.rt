@@ -13,8 +13,8 @@ ghost use Rattle.points.specs.Numbers.{nextNumber};
 ghost use Rattle.points.specs.Places.{rooms, Standing, RoomsFor, Placeable, SamplePlaceable, written, withPoint, stepOf, pointBy, pointFrom, SamplePlaced, Given, countBelow, countAll, Advanced};
 use crate::rows::Cuts;
 use crate::rows::Sides;
+use crate::rows::busy_word;
 use crate::rows::cuts_at;
-use crate::rows::is_quiet;
 use crate::rows::passed;
 use crate::rows::row_at;
 use grid::limits::UNIT;
@@ -187,7 +187,7 @@ fn place_sample(
     place_edge(cuts.z, 2, sides, grey, at, n, samples, points, edges, marks)
 }
 
-// The points of one row, from a number on. Answers the number after the last.
+// The points of one row, from a number on, at one busy sample after the other. Answers the number after the last.
 fn place_row(
     sides: Sides,
     grey: u16,
@@ -209,20 +209,20 @@ fn place_row(
         (rooms (now (points .entry)) (now (edges .entry)) (now (marks .entry)))
         (rooms (now (points .exit)) (now (edges .exit)) (now (marks .exit))) ⌝ }
 {
-    let mut row = row_at(sides, y, z, masks);
-    if is_quiet(row, sides.full) {
-        return from;
-    }
+    let row = row_at(sides, y, z, masks);
+    let first = sides.nx * (y + sides.ny * z);
+    let mut busy = busy_word(row, sides.full);
     let mut n = from;
-    let mut s = sides.nx * (y + sides.ny * z);
-    let mut x: usize = 0;
-    while x < sides.nx {
-        let cuts = cuts_at(x + 1 < sides.nx, row);
+    let mut next: usize = 0;
+    while busy != 0 {
+        let skip = u64::trailing_zeros(busy) as usize;
+        let x = next + skip;
+        let cuts = cuts_at(x + 1 < sides.nx, passed(row, x));
+        let s = first + x;
         let at = Sample { s, x, y, z };
         n = place_sample(cuts, sides, grey, at, n, samples, points, edges, marks);
-        row = passed(row);
-        s += 1;
-        x += 1;
+        busy = (busy >> skip) / 2;
+        next = x + 1;
     }
     n
 }

@@ -5,7 +5,7 @@ ghost use Prim.Native.Nat.{_+_, _*_, _<_, _≤_};
 ghost use lib.ListN.{getD};
 ghost use Rattle.grid.specs.Limits.{mostSide};
 ghost use Rattle.grid.specs.Work.{SidesFit};
-ghost use Rattle.points.specs.Rows.{AllSet, RowFrom, Quiet, parted, Parted, halvedOnce};
+ghost use Rattle.points.specs.Rows.{AllSet, RowFrom, Busy, parted, Parted, halvedBy};
 
 // The sides of a grid, and the mask of a row whose samples are all above.
 pub struct Sides {
@@ -30,7 +30,7 @@ pub struct Cuts {
     pub z: bool,
 }
 
-// The mask whose bits below nx are all set.
+// The mask whose bits below nx are set, and no others.
 pub fn full_mask(nx: usize) -> u64
     requires { ⌜ nx ≤ mostSide ⌝ }
     ensures { λ r. ⌜ AllSet nx r ⌝ }
@@ -68,20 +68,14 @@ pub fn row_at(sides: Sides, y: usize, z: usize, masks: &[u64; 4096]) -> Row
     }
 }
 
-// Are the samples of a row and of its neighbours all above, or all below? Then no edge of the row is crossed.
-pub fn is_quiet(row: Row, full: u64) -> bool
-    ensures { λ r. ⌜ (r ≡ true → Quiet full row) ⌝ }
+// The word whose bit x is set unless none of the three edges that leave sample x is crossed. The last sample's edge along x, which is not
+// there, may count as crossed.
+pub fn busy_word(row: Row, full: u64) -> u64
+    ensures { λ r. ⌜ Busy full row r ⌝ }
 {
-    if row.here != row.behind {
-        return false;
-    }
-    if row.here != row.over {
-        return false;
-    }
-    if row.here == 0 {
-        return true;
-    }
-    row.here == full
+    let along = row.here ^ (row.here / 2);
+    let aside = (row.here ^ row.behind) | (row.here ^ row.over);
+    full & (along | aside)
 }
 
 // Is one of two samples above and the other below, by the lowest bits of their masks?
@@ -102,13 +96,14 @@ pub fn cuts_at(more: bool, row: Row) -> Cuts
     }
 }
 
-// The row with its next sample passed.
-pub fn passed(row: Row) -> Row
-    ensures { λ r. ⌜ r ≡ halvedOnce row ⌝ }
+// The row with its first x samples passed.
+pub fn passed(row: Row, x: usize) -> Row
+    requires { ⌜ x < 64 ⌝ }
+    ensures { λ r. ⌜ r ≡ halvedBy row x ⌝ }
 {
     Row {
-        here: row.here / 2,
-        behind: row.behind / 2,
-        over: row.over / 2,
+        here: row.here >> x,
+        behind: row.behind >> x,
+        over: row.over >> x,
     }
 }

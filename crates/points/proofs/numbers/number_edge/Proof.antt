@@ -20,9 +20,13 @@ same-length c = search needs
 returns : tie.Need-returns
 returns c = rw (c .if1 .taken) (refl, refl)
 
+same-length-2 : tie.Need-same-length-2
+same-length-2 c = search needs
+
 returns-2 : tie.Need-returns-2
 returns-2 c = rw (c .if1 .left) (omega arith, refl)
 
 pub number-edge-spec : {M : Type 1} → statement M
 number-edge-spec =
-    tie.close (tie.spec mul-work slice-write-work add-result same-length returns returns-2)
+    tie.close
+    (tie.spec mul-work slice-write-work add-result same-length returns same-length-2 returns-2)

@@ -1,9 +1,11 @@
--- `points::rows::full_mask` meets its contract. The invariant: the mask is below 2 ^ x, and its bits below x are all set. Assumes nothing.
-use mathlib.Core.Path.{_≡_}
+-- `points::rows::full_mask` meets its contract. The invariant: the mask is below 2 ^ x, and its bits below x are those that are set. Assumes nothing.
+use mathlib.Core.Path.{_≡_, sym, _∙_}
 use Prim.Native.Nat.{ℕ, _+_, _-_, _^_, _<_, _≤_}
 use native.Mathlib.Nat.{pow-le-pow-right, two-pow-succ}
 use native.Mathlib.Numerals.{add-one}
 use native.Mathlib.Omega.{arith}
+use borrow.Author.Tests.{le-ltb}
+use Rattle.laws.proofs.Halves.{bit-of-zero}
 use Rattle.points.specs.Rows.{AllSet}
 use Rattle.points.proofs.General.{set-below}
 use Rattle.points.proofs.rows.full_mask.Statement.{statement}
@@ -26,7 +28,7 @@ room x nx h l =
     omega (arith, doubled x)
 
 loop-holds : tie.Need-loop-holds Inv-loop μ-loop
-loop-holds c = (omega arith, omega arith, λ x l. absurd (omega arith))
+loop-holds c = (omega arith, omega arith, λ x. bit-of-zero x ∙ sym (le-ltb x 0 (omega arith)))
 
 mul-mask : tie.Need-mul-mask Inv-loop μ-loop
 mul-mask c = omega (arith, room (c .before .loop .x) (c .before .before .args .nx) (c .loop-test .taken) (c .before .before .pre))
@@ -44,7 +46,9 @@ loop-again : tie.Need-loop-again Inv-loop μ-loop
 loop-again c = (omega arith, omega (arith, doubled (c .before .loop .x)), set-below _ _ (c .before .loop .inv .2))
 
 returns : tie.Need-returns Inv-loop μ-loop
-returns c x l = c .before .loop .inv .2 x (omega arith)
+returns c x =
+    let last : c .before .loop .x ≡ c .before .before .args .nx = omega arith in
+    rw (← last) (c .before .loop .inv .2 x)
 
 pub full-mask-spec : {M : Type 1} → statement M
 full-mask-spec =
