@@ -52,13 +52,22 @@ unfolding count triangles fan loops segments segmentsOf flatMap faceSegments cut
 whole-cube true = refl
 whole-cube false = refl
 
--- so none stands between four equal masks where two neighbouring bits agree
-pub one-side-empty : (b : Bool) (v x : ℕ) → bit v x ≡ b → bit v (x + 1) ≡ b → (m : RowMasks) → m .m10 ≡ m .m00 → m .m01 ≡ m .m00 → m .m11 ≡ m .m00
-    → m .m00 ≡ v → count (rowCase m x) ≡ 0
+-- the four masks have b for bit x
+abbrev pub AllAt : Bool → RowMasks → ℕ → Type 0
+AllAt b m x = (bit (m .m00) x ≡ b) × (bit (m .m10) x ≡ b) × (bit (m .m01) x ≡ b) × (bit (m .m11) x ≡ b)
+
+-- a cube at both of whose ends they have the same bit has no triangle
+pub one-side-empty : (b : Bool) (m : RowMasks) (x : ℕ) → AllAt b m x → AllAt b m (x + 1) → count (rowCase m x) ≡ 0
 unfolding rowCase
-one-side-empty b v x this next m p q r s =
-    let e : halved v x % 4 ≡ 3 * one-if b = same-bits b v x this next in
-    let k : rowCase m x ≡ 255 * one-if b = rw (p, q, r, s) (omega arith) in
+one-side-empty b m x this next =
+    let k : rowCase m x ≡ 255 * one-if b =
+    omega (
+      arith,
+      same-bits b (m .m00) x (this .0) (next .0),
+      same-bits b (m .m10) x (this .1) (next .1),
+      same-bits b (m .m01) x (this .2) (next .2),
+      same-bits b (m .m11) x (this .3) (next .3),
+    ) in
     ap count k ∙ whole-cube b
 
 -- of the table's fifteen numbers of a case, as many as its triangles have corners are those corners

@@ -1,13 +1,13 @@
 -- Laws of bits, ranges, lists and rooms that know no grid.
-use mathlib.Core.Path.{_≡_, refl, ap, ap₂, _∙_}
+use mathlib.Core.Path.{_≡_, refl, ap, ap₂, sym, _∙_}
 use mathlib.Core.Bool.{Bool, true, false}
 use mathlib.Core.List.{List, [], _∷_, _++_, map, flatMap}
 use Prim.Native.Nat.{ℕ, zero, suc, _+_, _*_, _-_, _/_, _%_, _^_, _<_, _≤_}
 use native.Mathlib.Nat.{mul-suc, pow-suc}
 use native.Mathlib.Numerals.{add-one}
 use native.Mathlib.Omega.{arith}
-use borrow.Author.Tests.{eq-eqb, eqb-true, eqb-false}
-use lib.Dec.{eqb}
+use borrow.Author.Tests.{eq-eqb, eqb-true, eqb-false, lt-ltb, le-ltb}
+use lib.Dec.{eqb, ltb, leb·suc-suc}
 use lib.Pow.{pow-pos}
 use lib.ListN.{length, getD, take, set, length-append}
 use lib.Seq.{sets, take-suc, length-take-le}
@@ -16,7 +16,7 @@ use Rattle.laws.specs.Bits.{bit, halved}
 use Rattle.laws.specs.Sum.{All}
 use Rattle.laws.specs.Mesh.{Triangle, rename, flat, sides}
 use Rattle.laws.proofs.Ranges.{sum-cong, join-cong, join-next, join-split, length-join, map-join, flat-join}
-use Rattle.laws.proofs.Halves.{halved-next, bit-halved}
+use Rattle.laws.proofs.Halves.{halved-next, bit-halved, bit-of-zero}
 use Rattle.laws.proofs.Writes.{sets-append}
 
 -- Bits.
@@ -34,12 +34,12 @@ two-bits n x =
     rw (bit-halved n x, bit-halved n (x + 1), halved-next n x)
     (omega (arith, lowest (halved n x), lowest (halved n x / 2)))
 
--- every bit below bit k of 2 ^ k - 1 is set
-pub bit-of-ones : (k n x : ℕ) → n + 1 ≡ 2 ^ k → x < k → bit n x ≡ true
+-- the bits of 2 ^ k - 1 that are set are those below bit k
+pub bit-of-ones : (k n x : ℕ) → n + 1 ≡ 2 ^ k → bit n x ≡ ltb x k
 unfolding bit
-bit-of-ones zero n x e l = absurd (omega arith)
-bit-of-ones (suc k) n zero e l = eq-eqb (n % 2) 1 (omega (arith, pow-suc 2 k))
-bit-of-ones (suc k) n (suc x) e l = bit-of-ones k (n / 2) x (omega (arith, pow-suc 2 k, pow-pos k)) (omega arith)
+bit-of-ones zero n x e = let z : n ≡ 0 = omega arith in rw z (bit-of-zero x ∙ sym (le-ltb x 0 (omega arith)))
+bit-of-ones (suc k) n zero e = eq-eqb (n % 2) 1 (omega (arith, pow-suc 2 k)) ∙ sym (lt-ltb 0 (suc k) (omega arith))
+bit-of-ones (suc k) n (suc x) e = bit-of-ones k (n / 2) x (omega (arith, pow-suc 2 k, pow-pos k)) ∙ sym (leb·suc-suc (suc x) k)
 
 -- Ranges.
 
@@ -47,22 +47,6 @@ pub sum-most : (b n : ℕ) (f : ℕ → ℕ) → ((i : ℕ) → i < n → f i �
 unfolding sumTo
 sum-most b zero f h = omega arith
 sum-most b (suc n) f h = omega (arith, sum-most b n f (λ i l. h i (omega arith)), h n (omega arith), mul-suc b n)
-
-sum-of-nothing : (n : ℕ) → sumTo n (λ i. 0) ≡ 0
-unfolding sumTo
-sum-of-nothing zero = refl
-sum-of-nothing (suc n) = omega (arith, sum-of-nothing n)
-
-pub sum-none : (n : ℕ) (f : ℕ → ℕ) → ((i : ℕ) → i < n → f i ≡ 0) → sumTo n f ≡ 0
-sum-none n f h = sum-cong n f (λ i. 0) h ∙ sum-of-nothing n
-
-join-of-nothing : {A : Type 0} (n : ℕ) → _≡_ {A = List A} (joinTo n (λ i. [])) []
-unfolding joinTo
-join-of-nothing zero = refl
-join-of-nothing (suc n) = ap (λ xs. xs ++ []) (join-of-nothing n)
-
-pub join-none : {A : Type 0} (n : ℕ) (f : ℕ → List A) → ((i : ℕ) → i < n → f i ≡ []) → joinTo n f ≡ []
-join-none n f h = join-cong n f (λ i. []) h ∙ join-of-nothing n
 
 -- what stands up to a number below n is no longer than the whole
 pub join-room : {A : Type 0} (i n : ℕ) (f : ℕ → List A) → i < n → length (joinTo i f) + length (f i) ≤ length (joinTo n f)

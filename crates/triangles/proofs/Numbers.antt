@@ -1,20 +1,20 @@
 -- The numbers that are written for a cube, a row and a layer: one step more, how many they are, and none where no cube has a triangle.
 use mathlib.Core.Path.{_≡_, refl, ap, sym, _∙_}
 use mathlib.Core.List.{List, [], _∷_, _++_}
-use Prim.Native.Nat.{ℕ, _+_, _*_, _-_, _<_}
+use Prim.Native.Nat.{ℕ, _+_, _*_, _-_, _<_, _≤_}
 use native.Mathlib.Omega.{arith}
 use lib.ListN.{length, getD, take, set, length-map, length-append}
 use lib.Seq.{sets, length-sets}
 use Rattle.laws.specs.Range.{joinTo}
 use Rattle.laws.specs.Mesh.{flat}
-use Rattle.laws.proofs.Ranges.{join-next}
+use Rattle.laws.proofs.Ranges.{join-next, join-quiet}
 use Rattle.laws.proofs.Writes.{sets-append}
 use Rattle.cube.specs.Answer.{count, triangles, table}
 use Rattle.cube.proofs.Cases.{CrossedEdge}
 use Rattle.triangles.specs.declared.RowMasks.{RowMasks}
 use Rattle.triangles.specs.Row.{masksAt, rowCase, cubeNumbers, rowNumbers, layerNumbers}
 use Rattle.triangles.specs.Walk.{CubeRoom, RowRoom, LayerRoom, Written}
-use Rattle.triangles.proofs.General.{all-get, map-at, length-flat, sets-next, join-none, join-room}
+use Rattle.triangles.proofs.General.{all-get, map-at, length-flat, sets-next, join-room}
 use Rattle.triangles.proofs.Cases.{corner-in-table, corners-crossed, row-case-small}
 
 -- a cube's numbers
@@ -66,11 +66,12 @@ module _ (offsets work : List ℕ) (m : RowMasks) (edge : ℕ) where
   unfolding rowNumbers joinTo
   row-first = refl
 
-  -- nothing where no cube has a triangle
-  pub row-none : (cubes : ℕ) → ((x : ℕ) → x < cubes → count (rowCase m x) ≡ 0) → rowNumbers offsets work cubes m edge ≡ []
+  -- cubes without a triangle add nothing
+  pub row-quiet : (x y : ℕ) → x ≤ y → ((i : ℕ) → x ≤ i → i < y → count (rowCase m i) ≡ 0)
+      → rowNumbers offsets work y m edge ≡ rowNumbers offsets work x m edge
   unfolding rowNumbers cubeOf
-  row-none cubes h =
-      join-none cubes cubeOf (λ x l. no-numbers (cubeOf x) (omega (arith, length-cube offsets work (edge + 3 * x) (rowCase m x), h x l)))
+  row-quiet x y h q =
+      join-quiet x y cubeOf h (λ i a l. no-numbers (cubeOf i) (omega (arith, length-cube offsets work (edge + 3 * i) (rowCase m i), q i a l)))
     where
       no-numbers : (xs : List ℕ) → length xs ≡ 0 → xs ≡ []
       no-numbers [] e = refl

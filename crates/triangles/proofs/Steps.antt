@@ -1,5 +1,5 @@
 -- One step of the walk along a row or a layer: the masks that it holds, and what it has counted so far.
-use mathlib.Core.Path.{_≡_, refl, ap, sym, _∙_}
+use mathlib.Core.Path.{_≡_, refl, ap, _∙_}
 use mathlib.Core.List.{List}
 use Prim.Native.Nat.{ℕ, _+_, _*_, _-_, _<_, _≤_}
 use native.Mathlib.Nat.{mul-add, mul-le-mul-left}
@@ -7,16 +7,17 @@ use native.Mathlib.Omega.{arith}
 use lib.ListN.{getD}
 use Rattle.laws.specs.Range.{sumTo}
 use Rattle.laws.specs.Bits.{halved}
-use Rattle.laws.proofs.Ranges.{sum-next}
+use Rattle.laws.proofs.Ranges.{sum-next, sum-quiet}
 use Rattle.laws.proofs.Halves.{halved-next}
+use Rattle.laws.proofs.Words.{halved-more}
 use Rattle.cube.specs.Answer.{count, countTable}
 use Rattle.cube.proofs.Places.{count-at}
 use Rattle.grid.specs.Work.{SidesFit}
 use Rattle.triangles.specs.declared.RowMasks.{RowMasks}
 use Rattle.triangles.specs.declared.Layer.{Layer}
-use Rattle.triangles.specs.Row.{masksAt, masksAfter, masksFrom, firstCase, rowCase, rowCount, layerCount}
+use Rattle.triangles.specs.Row.{masksAt, masksAfter, masksPast, masksFrom, firstCase, rowCase, rowCount, layerCount}
 use Rattle.triangles.specs.Walk.{AllSet, LayerFits}
-use Rattle.triangles.proofs.General.{sum-most, sum-none}
+use Rattle.triangles.proofs.General.{sum-most}
 use Rattle.triangles.proofs.Cases.{row-case-small, count-most}
 
 -- each layer of cubes has its two layers of samples among the masks
@@ -31,6 +32,10 @@ layer-fits nx ny nz z l s a h p q r =
       above = rw p a;
     }
 
+-- its mask of a row that is all above, for a row of cubes
+pub above-row : (l : Layer) → LayerFits l → AllSet (l .nx - 1 + 1) (l .full)
+above-row l f = let e : l .nx - 1 + 1 ≡ l .nx = omega (arith, f .least-x) in rw e (f .above)
+
 -- the masks that the walk holds
 pub masks-first : (m : RowMasks) → m ≡ masksFrom m 0
 unfolding halved
@@ -38,6 +43,9 @@ masks-first m = refl
 
 pub masks-next : (m : RowMasks) (x : ℕ) → masksAfter (masksFrom m x) ≡ masksFrom m (x + 1)
 masks-next m x = rw (halved-next (m .m00) x, halved-next (m .m10) x, halved-next (m .m01) x, halved-next (m .m11) x)
+
+pub masks-past : (m : RowMasks) (x k : ℕ) → masksPast (masksFrom m x) k ≡ masksFrom m (x + k)
+masks-past m x k = rw (halved-more (m .m00) x k, halved-more (m .m10) x k, halved-more (m .m01) x k, halved-more (m .m11) x k)
 
 -- the case that it reads off them, and the count of a case
 pub case-held : (m rest : RowMasks) (x k : ℕ) → rest ≡ masksFrom m x → k ≡ firstCase rest → k ≡ rowCase m x
@@ -61,9 +69,9 @@ module _ (m : RowMasks) where
   unfolding rowCount
   row-count-most cubes = sum-most 5 cubes (λ x. count (rowCase m x)) (λ x l. count-most (rowCase m x) (row-case-small m x))
 
-  pub row-count-none : (cubes : ℕ) → ((x : ℕ) → x < cubes → count (rowCase m x) ≡ 0) → 0 ≡ rowCount cubes m
+  pub row-count-quiet : (x y : ℕ) → x ≤ y → ((i : ℕ) → x ≤ i → i < y → count (rowCase m i) ≡ 0) → rowCount y m ≡ rowCount x m
   unfolding rowCount
-  row-count-none cubes h = sym (sum-none cubes (λ x. count (rowCase m x)) h)
+  row-count-quiet x y h q = sum-quiet x y (λ x. count (rowCase m x)) h q
 
 -- the count along a layer
 module _ (nx ny : ℕ) (masks : List ℕ) (first : ℕ) where

@@ -1,6 +1,6 @@
 -- Rows of cubes by the masks of the samples around them, and what the walk along them counts and writes.
 use mathlib.Core.List.{List, map}
-use Prim.Native.Nat.{ℕ, _+_, _*_, _-_, _/_, _%_}
+use Prim.Native.Nat.{ℕ, _+_, _*_, _-_, _/_, _%_, _^_}
 use lib.ListN.{getD}
 use Rattle.laws.specs.Range.{sumTo, joinTo}
 use Rattle.laws.specs.Bits.{halved}
@@ -13,9 +13,13 @@ use Rattle.triangles.specs.declared.RowMasks.{RowMasks}
 abbrev pub masksAt : List ℕ → ℕ → ℕ → RowMasks
 masksAt masks ny r = record { m00 = getD masks r 0; m10 = getD masks (r + 1) 0; m01 = getD masks (r + ny) 0; m11 = getD masks (r + ny + 1) 0 }
 
--- the masks without their first samples
+-- the masks without their first sample
 abbrev pub masksAfter : RowMasks → RowMasks
 masksAfter m = record { m00 = m .m00 / 2; m10 = m .m10 / 2; m01 = m .m01 / 2; m11 = m .m11 / 2 }
+
+-- the masks without their first k samples
+abbrev pub masksPast : RowMasks → ℕ → RowMasks
+masksPast m k = record { m00 = m .m00 / 2 ^ k; m10 = m .m10 / 2 ^ k; m01 = m .m01 / 2 ^ k; m11 = m .m11 / 2 ^ k }
 
 -- the masks from sample x on
 abbrev pub masksFrom : RowMasks → ℕ → RowMasks

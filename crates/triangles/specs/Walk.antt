@@ -1,8 +1,9 @@
 -- What the parts of the walk rely on, and what those that write leave.
 use mathlib.Core.Path.{_≡_}
-use mathlib.Core.Bool.{true}
+use mathlib.Core.Bool.{true, false}
 use mathlib.Core.List.{List}
 use Prim.Native.Nat.{ℕ, _+_, _*_, _-_, _<_, _≤_}
+use lib.Dec.{ltb}
 use lib.ListN.{length, getD}
 use lib.Seq.{sets}
 use Rattle.laws.specs.Bits.{bit}
@@ -10,11 +11,16 @@ use Rattle.cube.specs.Answer.{count}
 use Rattle.grid.specs.Limits.{leastSide, mostSide}
 use Rattle.triangles.specs.declared.RowMasks.{RowMasks}
 use Rattle.triangles.specs.declared.Layer.{Layer}
-use Rattle.triangles.specs.Row.{rowNumbers, layerNumbers}
+use Rattle.triangles.specs.Row.{rowCase, rowNumbers, layerNumbers}
 
--- a mask has its first n bits set
+-- a mask has its first n bits set, and no other
 abbrev pub AllSet : ℕ → ℕ → Type 0
-AllSet n full = (x : ℕ) → x < n → bit full x ≡ true
+AllSet n full = (x : ℕ) → bit full x ≡ ltb x n
+
+-- a word has a bit set only at cubes whose second samples are in the row, and of those cubes all that have a triangle
+pub record Busy (row : RowMasks) (full busy : ℕ) : Type 0 where
+  pub inside : (x : ℕ) → bit busy x ≡ true → bit full (x + 1) ≡ true
+  pub quiet : (x : ℕ) → bit busy x ≡ false → bit full (x + 1) ≡ true → count (rowCase row x) ≡ 0
 
 -- a layer's sides are within the limits, its rows of samples and those of the next layer are among the 4096 masks, and its mask of a row that is all
 -- above is one

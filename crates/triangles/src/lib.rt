@@ -1,22 +1,19 @@
 // The triangles of a grid, counted and written cube by cube from the masks of its rows.
 ghost use mathlib.Core.Path.{_≡_};
-ghost use mathlib.Core.Bool.{true};
 ghost use mathlib.Core.List.{map};
-ghost use Prim.Native.Nat.{ℕ, _+_, _*_, _-_, _≤_, _<_};
+ghost use Prim.Native.Nat.{_+_, _*_, _-_, _≤_, _<_};
 ghost use lib.ListN.{length};
 ghost use lib.Seq.{sets};
-ghost use Rattle.laws.specs.Bits.{bit};
 ghost use Rattle.laws.specs.Room.{laid};
 ghost use Rattle.laws.specs.Mesh.{flat};
 ghost use Rattle.cube.specs.Cube.{cubeEdges};
 ghost use Rattle.cube.specs.Promise.{Rows, Counts};
-ghost use Rattle.cube.specs.Answer.{count as countOf};
 ghost use Rattle.grid.specs.Mesh.{edgeMesh, mesh};
 ghost use Rattle.grid.specs.Work.{size, SidesFit, Numbered};
 ghost use Rattle.masks.specs.Masks.{maskAbove};
-ghost use Rattle.triangles.specs.Row.{masksAt, masksAfter, firstCase, rowCase, rowCount, layerCount};
+ghost use Rattle.triangles.specs.Row.{masksAt, masksAfter, masksPast, firstCase, rowCount, layerCount};
 ghost use Rattle.triangles.specs.Row.{edgeOffset, cubeNumbers, rowNumbers, layerNumbers};
-ghost use Rattle.triangles.specs.Walk.{AllSet, LayerFits, CubeRoom, RowRoom, LayerRoom, Written};
+ghost use Rattle.triangles.specs.Walk.{AllSet, Busy, LayerFits, CubeRoom, RowRoom, LayerRoom, Written};
 
 // The masks of the four rows of samples around a row of cubes: the row at the cubes' y and z, and those one on along y, along z and along both.
 struct RowMasks {
@@ -54,24 +51,26 @@ impl RowMasks {
         }
     }
 
-    // Are the four rows all below or all above? Then no cube has a triangle.
-    fn one_side(self, full: u64) -> bool
-        ensures { λ r. ⌜ (r ≡ true → (x : ℕ) → bit full x ≡ true → bit full (x + 1) ≡ true → countOf (rowCase self x) ≡ 0) ⌝ }
+    // On by some samples.
+    fn after(self, skip: u32) -> RowMasks
+        requires { ⌜ skip < 64 ⌝ }
+        ensures { λ r. ⌜ r ≡ masksPast self skip ⌝ }
+    {
+        RowMasks {
+            m00: self.m00 >> skip,
+            m10: self.m10 >> skip,
+            m01: self.m01 >> skip,
+            m11: self.m11 >> skip,
+        }
+    }
+
+    // The cubes that are neither all above nor all below, a bit each; no other has a triangle.
+    fn busy(self, full: u64) -> u64
+        ensures { λ r. ⌜ Busy self full r ⌝ }
     {
         let m = self.m00;
-        if m != self.m10 {
-            return false;
-        }
-        if m != self.m01 {
-            return false;
-        }
-        if m != self.m11 {
-            return false;
-        }
-        if m == 0 {
-            return true;
-        }
-        m == full
+        let apart = (m ^ self.m10) | (m ^ self.m01) | (m ^ self.m11);
+        (apart | (apart / 2) | (m ^ (m / 2))) & (full / 2)
     }
 }
 
@@ -107,15 +106,16 @@ fn count_row(counts: &[u8; 256], row: RowMasks, cubes: usize, full: u64) -> u32
     requires { ⌜ AllSet (cubes + 1) full ⌝ }
     ensures { λ r. ⌜ r ≡ rowCount cubes row ⌝ }
 {
-    if row.one_side(full) {
-        return 0;
-    }
+    let mut busy = row.busy(full);
     let mut rest = row;
     let mut sum = 0;
-    for _ in 0..cubes {
+    while busy != 0 {
+        let skip = u64::trailing_zeros(busy);
+        rest = rest.after(skip);
         let case = rest.case();
         sum += counts[case] as u32;
         rest = rest.next();
+        busy = (busy >> skip) / 2;
     }
     sum
 }
@@ -211,19 +211,21 @@ fn write_row(
     requires { ⌜ RowRoom (now offsets) (now work) (now triangles) cubes row edge at ⌝ }
     ensures { λ r. ⌜ Written (now (triangles .entry)) (now (triangles .exit)) at (rowNumbers (now (offsets .entry)) (now (work .entry)) cubes row edge) r ⌝ }
 {
-    if row.one_side(full) {
-        return at;
-    }
+    let mut busy = row.busy(full);
     let mut rest = row;
     let mut here = edge;
     let mut to = at;
-    for _ in 0..cubes {
+    while busy != 0 {
+        let skip = u64::trailing_zeros(busy);
+        rest = rest.after(skip);
+        here += 3 * (skip as usize);
         let case = rest.case();
         let many = 3 * (counts[case] as usize);
         write_cube(rows, offsets, work, triangles, case, many, here, to);
         to += many;
         here += 3;
         rest = rest.next();
+        busy = (busy >> skip) / 2;
     }
     to
 }

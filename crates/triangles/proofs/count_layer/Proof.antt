@@ -3,7 +3,7 @@ use mathlib.Core.Path.{_≡_, ap, _∙_}
 use Prim.Native.Nat.{_+_, _-_, _≤_}
 use native.Mathlib.Omega.{arith}
 use Rattle.triangles.specs.Row.{masksAt, rowCount, layerCount}
-use Rattle.triangles.proofs.Steps.{row-count-most, layer-count-first, layer-count-next, layer-count-most}
+use Rattle.triangles.proofs.Steps.{above-row, row-count-most, layer-count-first, layer-count-next, layer-count-most}
 use Rattle.triangles.proofs.count_layer.Statement.{statement}
 use Rattle.triangles.proofs.count_layer.Tie as tie
 
@@ -35,7 +35,7 @@ sub-count-row c = omega (arith, begun (c .before .before .before) .pre .1)
 count-row-requires : tie.Need-count-row-requires Inv-loop μ-loop
 count-row-requires c κs =
     let pre = begun (c .before .before .before) .pre in
-    (pre .0, (omega (arith, pre .1), λ x l. pre .1 .above x (omega (arith, pre .1))))
+    (pre .0, (omega (arith, pre .1), above-row _ (pre .1)))
 
 -- what the row added, in the words of the definitions
 row-is : (c : tie.After-count-row Inv-loop μ-loop)

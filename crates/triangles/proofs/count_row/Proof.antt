@@ -1,59 +1,75 @@
--- `triangles::count_row` meets its contract. The loop's invariant: the masks are those from the next cube on, and the sum is that of the cubes
--- passed. Assumes nothing.
-use mathlib.Core.Path.{_≡_, ap, _∙_}
-use Prim.Native.Nat.{ℕ, _+_, _-_, _<_, _≤_}
+-- `triangles::count_row` meets its contract. The loop's invariant: some cubes are passed, and the sum is theirs. Assumes nothing.
+use mathlib.Core.Path.{_≡_, ap, sym, _∙_}
+use Prim.Native.Nat.{ℕ, _+_, _<_, _≤_}
 use native.Mathlib.Omega.{arith}
 use borrow.Author.Needs.{needs}
+use lib.Count.{trailingZeros}
 use lib.ListN.{getD}
 use Rattle.cube.specs.Answer.{count}
-use Rattle.triangles.specs.Row.{masksAfter, masksFrom, rowCase, rowCount}
+use Rattle.triangles.specs.Row.{rowCase, rowCount}
 use Rattle.triangles.proofs.Cases.{row-case-small, count-most}
-use Rattle.triangles.proofs.Steps.{masks-first, masks-next, case-held, count-read, row-count-first, row-count-next, row-count-most, row-count-none}
+use Rattle.triangles.proofs.Steps.{case-held, count-read, row-count-first, row-count-next, row-count-most, row-count-quiet}
+use Rattle.triangles.proofs.Scanned.{Passed, passed-none, quiet-after, Found, found}
 use Rattle.triangles.proofs.count_row.Statement.{statement}
 use Rattle.triangles.proofs.count_row.Tie as tie
 
 abbrev Inv-loop : tie.InvT-loop
-Inv-loop counts cubes full rest₀ sum₀ counter₀ rest sum counter =
-    (counter ≤ cubes) × (rest ≡ masksFrom rest₀ counter) × (sum ≡ rowCount counter rest₀)
+Inv-loop counts cubes full busy₀ rest₀ sum₀ busy rest sum = (x : ℕ) × Passed rest₀ cubes busy₀ rest busy x × (sum ≡ rowCount x rest₀)
 
 abbrev μ-loop : tie.MeasureT-loop
-μ-loop counts cubes full rest₀ sum₀ counter₀ rest sum counter = cubes - counter
+μ-loop counts cubes full busy₀ rest₀ sum₀ busy rest sum = busy
 
-one-side-requires : tie.Need-one-side-requires Inv-loop μ-loop
-one-side-requires c κs = search needs
-
-returns : tie.Need-returns Inv-loop μ-loop
-returns c =
-    let full = c .before .before .pre .1 .1 in
-    row-count-none _ _ (λ x l. c .before .one-side .ensures (c .if1 .taken) x (full x (omega arith)) (full (x + 1) (omega arith)))
+busy-requires : tie.Need-busy-requires Inv-loop μ-loop
+busy-requires c κs = search needs
 
 loop-holds : tie.Need-loop-holds Inv-loop μ-loop
-loop-holds c = (omega arith, masks-first _, row-count-first _)
+loop-holds c = (0, passed-none _ _ _ (omega (arith, c .busy .ok)), row-count-first _)
+
+-- in a turn: how far on the next busy cube is, and which it is
+abbrev begun : tie.In-loop Inv-loop μ-loop → tie.Start Inv-loop μ-loop
+begun c = c .before .before .before
+
+abbrev skip : tie.In-loop Inv-loop μ-loop → ℕ
+skip c = trailingZeros 64 (c .before .loop .busy)
+
+abbrev cubeHere : tie.In-loop Inv-loop μ-loop → ℕ
+cubeHere c = c .before .loop .inv .0 + skip c
+
+found-here : (c : tie.In-loop Inv-loop μ-loop)
+    → let a = begun c .args in
+    let l = c .before .loop in
+    Found (a .row) (a .cubes) (c .before .before .busy .result) (l .rest) (l .busy) (l .inv .0) (skip c)
+found-here c =
+    let l = c .before .loop in
+    found _ _ _ _ (begun c .pre .1 .1) (c .before .before .busy .ensures) (l .rest) (l .busy) (l .inv .0) (l .inv .1) (c .loop-test .taken)
+
+after-requires : tie.Need-after-requires Inv-loop μ-loop
+after-requires c κs = found-here c .small
 
 case-requires : tie.Need-case-requires Inv-loop μ-loop
 case-requires c κs = search needs
 
--- in a turn: the case that was read, and its count, in the words of the definitions
-abbrev begun : tie.After-case Inv-loop μ-loop → tie.Start Inv-loop μ-loop
-begun c = c .before .before .before .before .before
+-- the case that was read, and its count, in the words of the definitions
+abbrev caseHere : tie.In-loop Inv-loop μ-loop → ℕ
+caseHere c = rowCase (begun c .args .row) (cubeHere c)
 
-abbrev caseHere : tie.After-case Inv-loop μ-loop → ℕ
-caseHere c = rowCase (begun c .args .row) (c .before .before .loop .counter)
-
-case-is : (c : tie.After-case Inv-loop μ-loop) → c .case .result ≡ caseHere c
-case-is c = let l = c .before .before .loop in case-held (begun c .args .row) (l .rest) (l .counter) (c .case .result) (l .inv .1) (c .case .ensures)
+case-is : (c : tie.After-case Inv-loop μ-loop) → c .case .result ≡ caseHere (c .before .before)
+case-is c =
+    let here = c .before .before in
+    case-held (begun here .args .row) (c .before .after .result) (cubeHere here) (c .case .result) (c .before .after .ensures ∙ found-here here .masks) (c .case .ensures)
 
 case-small : (c : tie.After-case Inv-loop μ-loop) → c .case .result < 256
-case-small c = omega (arith, case-is c, row-case-small (begun c .args .row) (c .before .before .loop .counter))
+case-small c = omega (arith, case-is c, row-case-small (begun (c .before .before) .args .row) (cubeHere (c .before .before)))
 
 abbrev countHere : tie.After-case Inv-loop μ-loop → ℕ
-countHere c = getD (begun c .args .counts .now) (c .case .result) 0
+countHere c = getD (begun (c .before .before) .args .counts .now) (c .case .result) 0
 
-count-is : (c : tie.After-case Inv-loop μ-loop) → countHere c ≡ count (caseHere c)
-count-is c = count-read _ _ (begun c .pre .0) (case-small c) ∙ ap count (case-is c)
+count-is : (c : tie.After-case Inv-loop μ-loop) → countHere c ≡ count (caseHere (c .before .before))
+count-is c = count-read _ _ (begun (c .before .before) .pre .0) (case-small c) ∙ ap count (case-is c)
 
 count-small : (c : tie.After-case Inv-loop μ-loop) → countHere c ≤ 5
-count-small c = omega (arith, count-is c, count-most (caseHere c) (row-case-small (begun c .args .row) (c .before .before .loop .counter)))
+count-small c =
+    omega (arith, count-is c, count-most (caseHere (c .before .before)) (row-case-small (begun (c .before .before) .args .row) (cubeHere (c .before .before))))
 
 element-copy-out-sum : tie.Need-element-copy-out-sum Inv-loop μ-loop
 element-copy-out-sum c = case-small c
@@ -63,31 +79,46 @@ cast-sum c = omega (arith, count-small (c .before))
 
 add-sum : tie.Need-add-sum Inv-loop μ-loop
 add-sum c =
-    let l = c .before .before .before .loop in
-    omega (arith, count-small (c .before), l .inv .2, row-count-most (begun (c .before) .args .row) (l .counter))
+    let here = c .before .before .before in
+    let l = here .before .loop in
+    omega (arith, count-small (c .before), l .inv .1 .within, l .inv .2, row-count-most (begun here .args .row) (l .inv .0), begun here .pre .1 .0)
 
 next-requires : tie.Need-next-requires Inv-loop μ-loop
 next-requires c κs = search needs
 
-add-counter : tie.Need-add-counter Inv-loop μ-loop
-add-counter c = omega arith
+cast-busy : tie.Need-cast-busy Inv-loop μ-loop
+cast-busy c = omega (arith, found-here (c .before .before .before .before) .small)
+
+shr-busy : tie.Need-shr-busy Inv-loop μ-loop
+shr-busy c = found-here (c .before .before .before .before) .small
 
 loop-less : tie.Need-loop-less Inv-loop μ-loop
-loop-less c = omega arith
+loop-less c = found-here (c .before .before .before .before) .falls
 
 loop-again : tie.Need-loop-again Inv-loop μ-loop
 loop-again c =
-    let here = c .before .before in
-    let l = here .before .before .loop in (
-      omega arith,
-      c .next .ensures ∙ ap masksAfter (l .inv .1) ∙ masks-next _ _,
-      omega (arith, l .inv .2, count-is here, row-count-next (begun here .args .row) (l .counter)),
+    let here = c .before .before .before .before in
+    let row = begun here .args .row in
+    let l = here .before .loop in
+    let f = found-here here in (
+      cubeHere here + 1,
+      f .next _ _ (c .before .before .before .after .ensures) (c .next .ensures),
+      omega (
+        arith,
+        l .inv .2,
+        count-is (c .before .before),
+        row-count-quiet row (l .inv .0) (cubeHere here) (omega arith) (f .quiet),
+        row-count-next row (cubeHere here),
+      ),
     )
 
-returns-2 : tie.Need-returns-2 Inv-loop μ-loop
-returns-2 c =
-    let e : c .before .loop .counter ≡ c .before .before .before .before .args .cubes = omega arith in
-    rw (← e) (c .before .loop .inv .2)
+returns : tie.Need-returns Inv-loop μ-loop
+returns c =
+    let start = c .before .before .before in
+    let l = c .before .loop in
+    l .inv .2
+    ∙ sym (row-count-quiet _ (l .inv .0) (start .args .cubes) (l .inv .1 .within)
+    (quiet-after _ _ _ _ (start .pre .1 .1) (c .before .before .busy .ensures) (l .rest) (l .busy) (l .inv .0) (l .inv .1) (c .loop-test .left)))
 
 pub count-row-spec : {M : Type 1} → statement M
 count-row-spec =
@@ -95,15 +126,16 @@ count-row-spec =
     (tie.spec
     Inv-loop
     μ-loop
-    one-side-requires
-    returns
+    busy-requires
     loop-holds
+    after-requires
     case-requires
     element-copy-out-sum
     cast-sum
     add-sum
     next-requires
-    add-counter
+    cast-busy
+    shr-busy
     loop-less
     loop-again
-    returns-2)
+    returns)

@@ -38,7 +38,9 @@ loop-again : tie.Need-loop-again Inv-loop μ-loop
 loop-again c = (omega arith, rw (add-one (c .before .loop .counter)) (omega (arith, pow-suc 2 (c .before .loop .counter))))
 
 returns : tie.Need-returns Inv-loop μ-loop
-returns c = λ x l. bit-of-ones (c .before .loop .counter) (c .before .loop .full) x (c .before .loop .inv .1) (omega arith)
+returns c =
+    let e : c .before .loop .counter ≡ c .before .before .args .nx = omega arith in
+    λ x. rw (← e) (bit-of-ones (c .before .loop .counter) (c .before .loop .full) x (c .before .loop .inv .1))
 
 pub full-mask-spec : {M : Type 1} → statement M
 full-mask-spec =

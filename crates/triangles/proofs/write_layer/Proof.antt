@@ -6,6 +6,7 @@ use native.Mathlib.Nat.{mul-add, mul-le-mul-left}
 use native.Mathlib.Omega.{arith}
 use Rattle.triangles.specs.Row.{layerNumbers}
 use Rattle.triangles.specs.Walk.{Written}
+use Rattle.triangles.proofs.Steps.{above-row}
 use Rattle.triangles.proofs.Numbers.{written-nothing, written-length, layer-first, row-room, layer-next}
 use Rattle.triangles.proofs.write_layer.Statement.{statement}
 use Rattle.triangles.proofs.write_layer.Tie as tie
@@ -68,7 +69,7 @@ write-row-requires c κs =
         (
           omega (arith, pre .1 .1 .0),
           (
-            λ x h. pre .1 .1 .0 .above x (omega (arith, pre .1 .1 .0)),
+            above-row _ (pre .1 .1 .0),
             row-room (a .offsets .now) (a .work .now) (a .layer .nx) (a .layer .ny) (a .masks .now) (a .layer .first) (a .triangles .now) (l .triangles) (a .at)
                 (l .to)
                 (l .y)
