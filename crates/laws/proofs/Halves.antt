@@ -1,12 +1,14 @@
 -- A number's bits, read off as it is halved again and again.
 use mathlib.Core.Path.{_≡_, refl, ap, sym, _∙_}
 use mathlib.Core.List.{List, [], _∷_, _++_}
-use mathlib.Core.Bool.{Bool, true, false}
+use mathlib.Core.Bool.{Bool, false}
 use Prim.Native.Nat.{ℕ, zero, suc, _+_, _*_, _/_, _%_, _^_, _<_}
 use native.Mathlib.Numerals.{add-one}
 use native.Mathlib.Nat.{add-zero, zero-add, suc-add, one-mul, mul-assoc, mul-comm, pow-suc}
 use native.Mathlib.Omega.{arith}
-use lib.Dec.{eqb}
+use lib.Dec.{eqb, ltb, leb·suc-suc}
+use lib.Pow.{pow-pos}
+use borrow.Author.Tests.{eq-eqb, lt-ltb, le-ltb}
 use lib.ListN.{length, getD}
 use Rattle.laws.specs.Bits.{bits, bit, valuesFrom, halved}
 use Rattle.laws.proofs.Binary.{bit-of-bits}
@@ -63,3 +65,10 @@ bits-append (b ∷ bs) cs =
     let twice : 2 ^ suc (length bs) * bits cs ≡ 2 * (2 ^ length bs * bits cs)
     = rw (pow-suc 2 (length bs), mul-comm (2 ^ length bs) 2) (mul-assoc 2 (2 ^ length bs) (bits cs)) in
     omega (arith, bits-append bs cs)
+
+-- the bits of 2 ^ k - 1 that are set are those below bit k
+pub bit-of-ones : (k n x : ℕ) → n + 1 ≡ 2 ^ k → bit n x ≡ ltb x k
+unfolding bit
+bit-of-ones zero n x e = let z : n ≡ 0 = omega arith in rw z (bit-of-zero x ∙ sym (le-ltb x 0 (omega arith)))
+bit-of-ones (suc k) n zero e = eq-eqb (n % 2) 1 (omega (arith, pow-suc 2 k)) ∙ sym (lt-ltb 0 (suc k) (omega arith))
+bit-of-ones (suc k) n (suc x) e = bit-of-ones k (n / 2) x (omega (arith, pow-suc 2 k, pow-pos k)) ∙ sym (leb·suc-suc (suc x) k)

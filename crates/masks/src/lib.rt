@@ -1,10 +1,10 @@
-// Rows of samples as masks, so that a walk over a row goes by halving numbers and a row with nothing crossed is seen at a glance.
+// Rows of samples as masks, so that a few operations on words say where in a row something is crossed.
 ghost use mathlib.Core.Path.{_≡_};
 ghost use Prim.Native.Nat.{_+_, _*_, _<_, _≤_};
 ghost use lib.Dec.{leb};
 ghost use lib.ListN.{length};
 ghost use Rattle.laws.specs.Range.{one-if};
-ghost use Rattle.masks.specs.Masks.{rowAbove, maskFrom, rowMask, Masked};
+ghost use Rattle.masks.specs.Masks.{rowAbove, maskFrom, rowMask, Masked, AllSet};
 
 // 1 if the sample is above, else 0.
 fn above_bit(sample: u16, grey: u16) -> u64
@@ -73,4 +73,16 @@ pub fn fill(samples: &[u16], nx: usize, rows: usize, grey: u16, masks: &mut [u64
         r += 1;
         start += nx;
     }
+}
+
+// The mask of a row of nx samples that are all above.
+pub fn full_mask(nx: usize) -> u64
+    requires { ⌜ nx ≤ 64 ⌝ }
+    ensures { λ r. ⌜ AllSet nx r ⌝ }
+{
+    let mut full = 0;
+    for _ in 0..nx {
+        full = 2 * full + 1;
+    }
+    full
 }

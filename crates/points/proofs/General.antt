@@ -2,23 +2,14 @@
 use mathlib.Core.Path.{_≡_, refl, sym}
 use mathlib.Core.List.{List, [], _∷_, _++_, map, flatMap, append-assoc, append-nil, map-append}
 use mathlib.Core.Bool.{Bool, true, false, not, xor}
-use Prim.Native.Nat.{ℕ, zero, suc, _+_, _*_, _/_, _%_, _<_, _≤_, compare·suc-suc}
+use Prim.Native.Nat.{ℕ, zero, suc, _+_, _*_, _%_, _<_, _≤_}
 use native.Mathlib.Nat.{mul-le-mul-right, mul-zero, mul-suc, mul-add, add-zero, add-suc}
-use native.Mathlib.Numerals.{add-one}
 use native.Mathlib.Omega.{arith}
-use lib.Dec.{eqb, ltb}
+use lib.Dec.{eqb}
 use lib.ListN.{length, length-append, length-map}
 use lib.Seq.{sets}
-use borrow.Author.Tests.{lt-ltb}
 use Rattle.laws.specs.Range.{countTo, sumTo, joinTo, keepTo, one-if}
-use Rattle.laws.specs.Bits.{bit}
 use Rattle.laws.proofs.Writes.{sets-append}
-
--- a mask with one more bit set below the others
-pub set-below : (m n : ℕ) → ((i : ℕ) → bit m i ≡ ltb i n) → (i : ℕ) → bit (2 * m + 1) i ≡ ltb i (n + 1)
-unfolding bit
-set-below m n all zero = let e : (2 * m + 1) % 2 ≡ 1 = omega arith in rw e (sym (lt-ltb 0 (n + 1) (omega arith)))
-set-below m n all (suc i) = let e : (2 * m + 1) / 2 ≡ m = omega arith in rw (e, add-one, compare·suc-suc (suc i) n) (all i)
 
 -- two remainders by 2 differ when one of them is 1 and the other not
 pub odd-differ : (p q : ℕ) → p < 2 → q < 2 → not (eqb p q) ≡ xor (eqb p 1) (eqb q 1)

@@ -8,13 +8,10 @@ use lib.ListN.{getD}
 use Rattle.laws.specs.Bits.{bit, halved}
 use Rattle.grid.specs.Grid.{Size}
 use Rattle.grid.specs.Work.{size, SidesFit}
+use Rattle.masks.specs.Masks.{AllSet}
 use Rattle.points.specs.declared.rows.Sides.{Sides}
 use Rattle.points.specs.declared.rows.Row.{Row}
 use Rattle.points.specs.declared.rows.Cuts.{Cuts}
-
--- the bits below nx are set, and no others
-abbrev pub AllSet : ℕ → ℕ → Type 0
-AllSet nx mask = (x : ℕ) → bit mask x ≡ ltb x nx
 
 -- the sides are within the limits, and the full mask is theirs
 pub record Ready (sides : Sides) : Type 0 where

@@ -16,7 +16,6 @@ mod rows;
 use numbers::number_layer;
 use places::place_layer;
 use rows::Sides;
-use rows::full_mask;
 
 // Writes the number of its point at each crossed edge of the work room, and answers how many points there are.
 pub fn number(nx: usize, ny: usize, nz: usize, masks: &[u64; 4096], work: &mut [u32]) -> u32
@@ -29,7 +28,7 @@ pub fn number(nx: usize, ny: usize, nz: usize, masks: &[u64; 4096], work: &mut [
         nx,
         ny,
         nz,
-        full: full_mask(nx),
+        full: masks::full_mask(nx),
     };
     let mut n: u32 = 0;
     let mut z: usize = 0;
@@ -66,7 +65,7 @@ pub fn place(
         nx,
         ny,
         nz,
-        full: full_mask(nx),
+        full: masks::full_mask(nx),
     };
     let mut n: usize = 0;
     let mut z: usize = 0;

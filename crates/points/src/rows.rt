@@ -1,11 +1,10 @@
 // The rows of a grid as masks, and which of the edges that leave a sample are crossed.
 ghost use mathlib.Core.Path.{_≡_};
 ghost use mathlib.Core.Bool.{true, cond, _&&_};
-ghost use Prim.Native.Nat.{_+_, _*_, _<_, _≤_};
+ghost use Prim.Native.Nat.{_+_, _*_, _<_};
 ghost use lib.ListN.{getD};
-ghost use Rattle.grid.specs.Limits.{mostSide};
 ghost use Rattle.grid.specs.Work.{SidesFit};
-ghost use Rattle.points.specs.Rows.{AllSet, RowFrom, Busy, parted, Parted, halvedBy};
+ghost use Rattle.points.specs.Rows.{RowFrom, Busy, parted, Parted, halvedBy};
 
 // The sides of a grid, and the mask of a row whose samples are all above.
 pub struct Sides {
@@ -28,20 +27,6 @@ pub struct Cuts {
     pub x: bool,
     pub y: bool,
     pub z: bool,
-}
-
-// The mask whose bits below nx are set, and no others.
-pub fn full_mask(nx: usize) -> u64
-    requires { ⌜ nx ≤ mostSide ⌝ }
-    ensures { λ r. ⌜ AllSet nx r ⌝ }
-{
-    let mut mask: u64 = 0;
-    let mut x: usize = 0;
-    while x < nx {
-        mask = 2 * mask + 1;
-        x += 1;
-    }
-    mask
 }
 
 // The mask of a neighbouring row, or the row's own where the grid ends.

@@ -1,14 +1,13 @@
 -- Laws of bits, ranges, lists and rooms that know no grid.
-use mathlib.Core.Path.{_≡_, refl, ap, ap₂, sym, _∙_}
+use mathlib.Core.Path.{_≡_, refl, ap, ap₂, _∙_}
 use mathlib.Core.Bool.{Bool, true, false}
 use mathlib.Core.List.{List, [], _∷_, _++_, map, flatMap}
-use Prim.Native.Nat.{ℕ, zero, suc, _+_, _*_, _-_, _/_, _%_, _^_, _<_, _≤_}
-use native.Mathlib.Nat.{mul-suc, pow-suc}
+use Prim.Native.Nat.{ℕ, zero, suc, _+_, _*_, _-_, _/_, _%_, _<_, _≤_}
+use native.Mathlib.Nat.{mul-suc}
 use native.Mathlib.Numerals.{add-one}
 use native.Mathlib.Omega.{arith}
-use borrow.Author.Tests.{eq-eqb, eqb-true, eqb-false, lt-ltb, le-ltb}
-use lib.Dec.{eqb, ltb, leb·suc-suc}
-use lib.Pow.{pow-pos}
+use borrow.Author.Tests.{eqb-true, eqb-false}
+use lib.Dec.{eqb}
 use lib.ListN.{length, getD, take, set, length-append}
 use lib.Seq.{sets, take-suc, length-take-le}
 use Rattle.laws.specs.Range.{one-if, sumTo, joinTo, joinBox}
@@ -16,7 +15,7 @@ use Rattle.laws.specs.Bits.{bit, halved}
 use Rattle.laws.specs.Sum.{All}
 use Rattle.laws.specs.Mesh.{Triangle, rename, flat, sides}
 use Rattle.laws.proofs.Ranges.{sum-cong, join-cong, join-next, join-split, length-join, map-join, flat-join}
-use Rattle.laws.proofs.Halves.{halved-next, bit-halved, bit-of-zero}
+use Rattle.laws.proofs.Halves.{halved-next, bit-halved}
 use Rattle.laws.proofs.Writes.{sets-append}
 
 -- Bits.
@@ -33,13 +32,6 @@ pub two-bits : (n x : ℕ) → halved n x % 4 ≡ one-if (bit n x) + 2 * one-if 
 two-bits n x =
     rw (bit-halved n x, bit-halved n (x + 1), halved-next n x)
     (omega (arith, lowest (halved n x), lowest (halved n x / 2)))
-
--- the bits of 2 ^ k - 1 that are set are those below bit k
-pub bit-of-ones : (k n x : ℕ) → n + 1 ≡ 2 ^ k → bit n x ≡ ltb x k
-unfolding bit
-bit-of-ones zero n x e = let z : n ≡ 0 = omega arith in rw z (bit-of-zero x ∙ sym (le-ltb x 0 (omega arith)))
-bit-of-ones (suc k) n zero e = eq-eqb (n % 2) 1 (omega (arith, pow-suc 2 k)) ∙ sym (lt-ltb 0 (suc k) (omega arith))
-bit-of-ones (suc k) n (suc x) e = bit-of-ones k (n / 2) x (omega (arith, pow-suc 2 k, pow-pos k)) ∙ sym (leb·suc-suc (suc x) k)
 
 -- Ranges.
 

@@ -13,7 +13,8 @@ use Rattle.laws.proofs.Scan.{scan-quiet, scan-found, scan-done}
 use Rattle.cube.specs.Answer.{count}
 use Rattle.triangles.specs.declared.RowMasks.{RowMasks}
 use Rattle.triangles.specs.Row.{masksAfter, masksPast, masksFrom, rowCase}
-use Rattle.triangles.specs.Walk.{AllSet, Busy}
+use Rattle.masks.specs.Masks.{AllSet}
+use Rattle.triangles.specs.Walk.{Busy}
 use Rattle.triangles.proofs.Steps.{masks-first, masks-next, masks-past}
 
 -- x cubes of the row are passed: the masks are those from cube x on, and so are the bits of the row's busy word b

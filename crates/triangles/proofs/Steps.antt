@@ -16,7 +16,8 @@ use Rattle.grid.specs.Work.{SidesFit}
 use Rattle.triangles.specs.declared.RowMasks.{RowMasks}
 use Rattle.triangles.specs.declared.Layer.{Layer}
 use Rattle.triangles.specs.Row.{masksAt, masksAfter, masksPast, masksFrom, firstCase, rowCase, rowCount, layerCount}
-use Rattle.triangles.specs.Walk.{AllSet, LayerFits}
+use Rattle.masks.specs.Masks.{AllSet}
+use Rattle.triangles.specs.Walk.{LayerFits}
 use Rattle.triangles.proofs.General.{sum-most}
 use Rattle.triangles.proofs.Cases.{row-case-small, count-most}
 

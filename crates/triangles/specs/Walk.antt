@@ -3,19 +3,15 @@ use mathlib.Core.Path.{_≡_}
 use mathlib.Core.Bool.{true, false}
 use mathlib.Core.List.{List}
 use Prim.Native.Nat.{ℕ, _+_, _*_, _-_, _<_, _≤_}
-use lib.Dec.{ltb}
 use lib.ListN.{length, getD}
 use lib.Seq.{sets}
 use Rattle.laws.specs.Bits.{bit}
 use Rattle.cube.specs.Answer.{count}
 use Rattle.grid.specs.Limits.{leastSide, mostSide}
+use Rattle.masks.specs.Masks.{AllSet}
 use Rattle.triangles.specs.declared.RowMasks.{RowMasks}
 use Rattle.triangles.specs.declared.Layer.{Layer}
 use Rattle.triangles.specs.Row.{rowCase, rowNumbers, layerNumbers}
-
--- a mask has its first n bits set, and no other
-abbrev pub AllSet : ℕ → ℕ → Type 0
-AllSet n full = (x : ℕ) → bit full x ≡ ltb x n
 
 -- a word has a bit set only at cubes whose second samples are in the row, and of those cubes all that have a triangle
 pub record Busy (row : RowMasks) (full busy : ℕ) : Type 0 where

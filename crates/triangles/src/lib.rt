@@ -10,10 +10,10 @@ ghost use Rattle.cube.specs.Cube.{cubeEdges};
 ghost use Rattle.cube.specs.Promise.{Rows, Counts};
 ghost use Rattle.grid.specs.Mesh.{edgeMesh, mesh};
 ghost use Rattle.grid.specs.Work.{size, SidesFit, Numbered};
-ghost use Rattle.masks.specs.Masks.{maskAbove};
+ghost use Rattle.masks.specs.Masks.{maskAbove, AllSet};
 ghost use Rattle.triangles.specs.Row.{masksAt, masksAfter, masksPast, firstCase, rowCount, layerCount};
 ghost use Rattle.triangles.specs.Row.{edgeOffset, cubeNumbers, rowNumbers, layerNumbers};
-ghost use Rattle.triangles.specs.Walk.{AllSet, Busy, LayerFits, CubeRoom, RowRoom, LayerRoom, Written};
+ghost use Rattle.triangles.specs.Walk.{Busy, LayerFits, CubeRoom, RowRoom, LayerRoom, Written};
 
 // The masks of the four rows of samples around a row of cubes: the row at the cubes' y and z, and those one on along y, along z and along both.
 struct RowMasks {
@@ -87,18 +87,6 @@ fn masks_at(masks: &[u64; 4096], ny: usize, r: usize) -> RowMasks
     }
 }
 
-// The mask of a row of nx samples that are all above.
-fn full_mask(nx: usize) -> u64
-    requires { ⌜ nx ≤ 64 ⌝ }
-    ensures { λ r. ⌜ AllSet nx r ⌝ }
-{
-    let mut full = 0;
-    for _ in 0..nx {
-        full = 2 * full + 1;
-    }
-    full
-}
-
 // How many triangles a row of cubes has.
 fn count_row(counts: &[u8; 256], row: RowMasks, cubes: usize, full: u64) -> u32
     requires { ⌜ Counts (now counts) ⌝ }
@@ -141,7 +129,7 @@ pub fn count(nx: usize, ny: usize, nz: usize, masks: &[u64; 4096]) -> u32
     ensures { λ r. ⌜ r ≡ length (edgeMesh (size nx ny nz) (maskAbove nx (now (masks .entry)))) ⌝ }
 {
     let counts = cube::counts();
-    let full = full_mask(nx);
+    let full = masks::full_mask(nx);
     let last = nz - 1;
     let mut first = 0;
     let mut sum = 0;
@@ -287,7 +275,7 @@ pub fn write(
     let rows = cube::rows();
     let counts = cube::counts();
     let offsets = edge_offsets(nx, ny);
-    let full = full_mask(nx);
+    let full = masks::full_mask(nx);
     let last = nz - 1;
     let mut first = 0;
     let mut to = 0;

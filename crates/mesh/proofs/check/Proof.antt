@@ -1,9 +1,8 @@
 -- `mesh::check` meets its contract: the first number that holds. Assumes nothing.
-use mathlib.Core.Path.{_≡_, sym, _∙_}
-use mathlib.Core.Bool.{true}
+use mathlib.Core.Path.{sym, _∙_}
 use borrow.Author.Tests.{not-true, not-false}
 use borrow.Author.Needs.{needs}
-use Rattle.mesh.specs.Check.{lengthsFit, trianglesFit, allWithin, meshNumber}
+use Rattle.mesh.specs.Check.{meshNumber}
 use Rattle.mesh.proofs.check.Statement.{statement}
 use Rattle.mesh.proofs.check.Tie as tie
 

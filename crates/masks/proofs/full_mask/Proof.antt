@@ -1,13 +1,13 @@
--- `triangles::full_mask` meets its contract. The loop's invariant: after i turns the mask is 2 ^ i - 1. Assumes nothing.
+-- `masks::full_mask` meets its contract. The loop's invariant: after i turns the mask is 2 ^ i - 1. Assumes nothing.
 use mathlib.Core.Path.{_≡_}
 use Prim.Native.Nat.{_+_, _-_, _^_, _≤_}
 use native.Mathlib.Nat.{pow-suc}
 use native.Mathlib.Numerals.{add-one}
 use native.Mathlib.Omega.{arith}
 use lib.Pow.{pow-mono}
-use Rattle.triangles.proofs.General.{bit-of-ones}
-use Rattle.triangles.proofs.full_mask.Statement.{statement}
-use Rattle.triangles.proofs.full_mask.Tie as tie
+use Rattle.laws.proofs.Halves.{bit-of-ones}
+use Rattle.masks.proofs.full_mask.Statement.{statement}
+use Rattle.masks.proofs.full_mask.Tie as tie
 
 abbrev Inv-loop : tie.InvT-loop
 Inv-loop nx full₀ counter₀ full counter = (counter ≤ nx) × (full + 1 ≡ 2 ^ counter)
