@@ -1,15 +1,20 @@
 -- Every row of the table holds.
 use mathlib.Core.Path.{refl}
 use mathlib.Core.List.{flatMap}
-use Rattle.laws.specs.Sum.{All}
+use Rattle.laws.specs.Sum.{All, sumOf}
 use Rattle.laws.specs.Bits.{bit}
 use Rattle.cube.specs.Cube.{isAbove}
 use Rattle.cube.specs.Face.{cuts, wayRound, faceSegments, segmentsOf}
 use Rattle.cube.specs.Loop.{loops, fan}
 use Rattle.cube.specs.Answer.{segments, triangles}
 use Rattle.grid.specs.Point.{offset}
+use Rattle.laws.specs.Range.{keepTo, joinTo}
+use Rattle.laws.specs.Order.{isIn}
+use Rattle.laws.specs.Mesh.{sides, sameArrow}
+use Rattle.mesh.specs.Neighbours.{neighbours, shareSide}
+use Rattle.smooth.specs.Round.{moved, movedFrom, round}
 use Rattle.figures.specs.Figure.{Holds, figures}
 
 pub figures-hold : All Holds figures
-unfolding triangles flatMap fan loops segments segmentsOf faceSegments cuts wayRound isAbove bit offset
-figures-hold = (refl, (refl, (refl, (refl, (refl, (refl, (refl, (refl, (refl, (refl, (refl, tt)))))))))))
+unfolding triangles flatMap fan loops segments segmentsOf faceSegments cuts wayRound isAbove bit offset moved sumOf round movedFrom neighbours shareSide sides isIn sameArrow keepTo joinTo
+figures-hold = (refl, (refl, (refl, (refl, (refl, (refl, (refl, (refl, (refl, (refl, (refl, (refl, (refl, (refl, tt))))))))))))))

@@ -1,4 +1,5 @@
--- A mesh as its lists say it, and what a caller's mesh must pass (document 01, "Numbers that refuse", 6 to 9).
+-- A mesh as its lists say it, what a caller's mesh must pass (document 01, "Numbers that refuse", 6 to 9), and neighbours.
 pub mod Mesh
 pub mod Check
 pub mod Promise
+pub mod Neighbours

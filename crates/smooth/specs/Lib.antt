@@ -1,3 +1,4 @@
 -- Smoothing, and one point shown (document 01, "Smoothing").
+pub mod Round
 pub mod Show
 pub mod Promise
