@@ -12,6 +12,3 @@ pub const UNIT: u32 = 256;
 
 // The last sample's coordinate on the longest side, in units.
 pub const MOST_COORDINATE: u32 = UNIT * (MOST_SIDE - 1);
-
-// Rows of samples in the largest grid.
-pub const MOST_ROWS: usize = (MOST_SIDE * MOST_SIDE) as usize;

@@ -1,0 +1,73 @@
+-- `smooth::moved` meets its contract: the definition's own arithmetic, which fits. Assumes nothing.
+use mathlib.Core.Path.{refl}
+use Prim.Native.Nat.{_+_, _*_, _-_, _≤_}
+use native.Mathlib.Omega.{arith}
+use borrow.Author.Needs.{needs}
+use Rattle.grid.specs.Limits.{unit, mostPoints, mostCoordinate}
+use Rattle.smooth.specs.Round.{moved}
+use Rattle.smooth.proofs.Weighed.{moved-small, parts-small}
+use Rattle.smooth.proofs.moved.Statement.{statement}
+use Rattle.smooth.proofs.moved.Tie as tie
+
+small : (c : tie.Start) → let a = c .args in ((unit - a .weight) * a .d ≤ unit * mostPoints) × ((unit - a .weight) * a .d * a .p + a .weight * a .sum ≤ unit * (mostPoints * mostCoordinate))
+small c = let a = c .args in parts-small (a .weight) (a .d) (a .p) (a .sum) (c .pre .0) (c .pre .1 .0 .1) (c .pre .1 .1 .0) (c .pre .1 .1 .1)
+
+cast-whole : tie.Need-cast-whole
+cast-whole c = search needs
+
+mul-whole : tie.Need-mul-whole
+mul-whole c = search needs
+
+cast-result : tie.Need-cast-result
+cast-result c = search needs
+
+sub-result : tie.Need-sub-result
+sub-result c = search needs
+
+mul-result : tie.Need-mul-result
+mul-result c = omega (arith, small c .0, small c .1)
+
+mul-result-2 : tie.Need-mul-result-2
+mul-result-2 c = omega (arith, small c .0, small c .1)
+
+mul-result-3 : tie.Need-mul-result-3
+mul-result-3 c = omega (arith, small c .0, small c .1)
+
+add-result : tie.Need-add-result
+add-result c = omega (arith, small c .0, small c .1)
+
+mul-result-4 : tie.Need-mul-result-4
+mul-result-4 c = omega (arith, small c .0, small c .1)
+
+add-result-2 : tie.Need-add-result-2
+add-result-2 c = omega (arith, small c .0, small c .1)
+
+mul-result-5 : tie.Need-mul-result-5
+mul-result-5 c = search needs
+
+div-result : tie.Need-div-result
+div-result c = search needs
+
+returns : tie.Need-returns
+unfolding moved
+returns c =
+    let a = c .args in
+    (refl, moved-small (a .weight) (a .d) (a .p) (a .sum) mostCoordinate (c .pre .0) (c .pre .1 .0 .0) (c .pre .1 .1 .0) (c .pre .1 .1 .1))
+
+pub moved-spec : {M : Type 1} → statement M
+moved-spec =
+    tie.close
+    (tie.spec
+    cast-whole
+    mul-whole
+    cast-result
+    sub-result
+    mul-result
+    mul-result-2
+    mul-result-3
+    add-result
+    mul-result-4
+    add-result-2
+    mul-result-5
+    div-result
+    returns)
