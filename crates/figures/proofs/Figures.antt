@@ -3,6 +3,7 @@ use mathlib.Core.Path.{refl}
 use mathlib.Core.List.{flatMap}
 use Rattle.laws.specs.Sum.{All, sumOf}
 use Rattle.laws.specs.Bits.{bit}
+use Rattle.laws.specs.Nearest.{nearest}
 use Rattle.cube.specs.Cube.{isAbove}
 use Rattle.cube.specs.Face.{cuts, wayRound, faceSegments, segmentsOf}
 use Rattle.cube.specs.Loop.{loops, fan}
@@ -16,5 +17,5 @@ use Rattle.smooth.specs.Round.{moved, movedFrom, round}
 use Rattle.figures.specs.Figure.{Holds, figures}
 
 pub figures-hold : All Holds figures
-unfolding triangles flatMap fan loops segments segmentsOf faceSegments cuts wayRound isAbove bit offset moved sumOf round movedFrom neighbours shareSide sides isIn sameArrow keepTo joinTo
+unfolding triangles flatMap fan loops segments segmentsOf faceSegments cuts wayRound isAbove bit offset nearest moved sumOf round movedFrom neighbours shareSide sides isIn sameArrow keepTo joinTo
 figures-hold = (refl, (refl, (refl, (refl, (refl, (refl, (refl, (refl, (refl, (refl, (refl, (refl, (refl, (refl, tt))))))))))))))

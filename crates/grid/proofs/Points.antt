@@ -1,15 +1,15 @@
 -- Points: their numbers are one-to-one and fill 0 to V - 1, their coordinates are within the limit, their marks are 0 or 1.
 use mathlib.Core.Path.{_≡_, refl, ap, sym, _∙_}
-use mathlib.Core.List.{List, [], _∷_}
+use mathlib.Core.List.{List}
 use mathlib.Core.Bool.{Bool, true, false, _&&_, xor, false≢true}
-use Prim.Native.Nat.{ℕ, zero, suc, _+_, _*_, _-_, _/_, _%_, _^_, _<_, _≤_}
-use native.Mathlib.Nat.{div-lt-iff-lt-mul, mul-comm, mul-le-mul-left, mul-add}
+use Prim.Native.Nat.{ℕ, _+_, _*_, _/_, _%_, _<_, _≤_}
+use native.Mathlib.Nat.{mul-le-mul-left}
 use native.Mathlib.Omega.{arith}
-use lib.Dec.{leb, ltb}
+use lib.Dec.{leb}
 use lib.ListN.{length, getD}
 use borrow.Author.Tests.{leb-true, leb-false, ltb-true}
-use Rattle.laws.specs.Range.{one-if, countTo, keepTo}
 use Rattle.laws.specs.Sum.{All}
+use Rattle.laws.proofs.Nearest.{nearest-most}
 use Rattle.laws.proofs.Tests.{both}
 use Rattle.laws.proofs.Binary.{bit-le}
 use Rattle.laws.proofs.Keep.{Ranked, length-keep, rank-lt, at-rank, kept-at}
@@ -56,9 +56,7 @@ pub offset-small : (v0 v1 grey : ℕ) → xor (leb grey v0) (leb grey v1) ≡ tr
 unfolding offset
 offset-small v0 v1 grey c =
     let b = between v0 v1 grey c in
-    let p : 0 < 2 * apart v1 v0 = omega (arith, b .1) in
-    let s : (2 * (unit * apart grey v0) + apart v1 v0) / (2 * apart v1 v0) < unit + 1 = div-lt-iff-lt-mul p .1 (omega (arith, b .0, b .1)) in
-    omega arith
+    nearest-most (unit * apart grey v0) (apart v1 v0) unit (b .1) (mul-le-mul-left unit (b .0))
 
 module _ (k : Kind) (n : Size) (grey : ℕ) (samples : List ℕ) (most : (axis : ℕ) → side n axis ≤ mostSide) where
   place-along : (s d axis : ℕ) → offset (getD samples s 0) (getD samples (otherEnd n s d) 0) grey ≤ unit → fitsAlong n s d axis ≡ true

@@ -4,7 +4,7 @@ use mathlib.Core.Bool.{Bool, true, false, cond, _&&_, _||_, xor}
 use Prim.Native.Nat.{ℕ, zero, suc, _+_, _*_, _-_, _/_, _%_, _^_}
 use lib.Dec.{eqb, leb, ltb}
 use lib.ListN.{getD}
-use Rattle.laws.specs.Range.{one-if, countTo, keepTo}
+use Rattle.laws.specs.Range.{one-if}
 
 pub record Size : Type 0 where
   pub nx : ℕ

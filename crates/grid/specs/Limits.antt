@@ -1,4 +1,4 @@
--- Document 01, "Numbers and sizes": every bound of the base, here and nowhere else.
+-- Document 01, "Numbers and sizes": every bound of the base, here and nowhere else. Samples and the grey value are numbers of 16 bits.
 use Prim.Native.Nat.{ℕ, _*_, _-_}
 
 -- each side nx, ny, nz
@@ -21,3 +21,10 @@ unit = 256
 
 abbrev pub mostCoordinate : ℕ
 mostCoordinate = unit * (mostSide - 1)
+
+-- rounds k and weight w
+abbrev pub mostRounds : ℕ
+mostRounds = 100
+
+abbrev pub mostWeight : ℕ
+mostWeight = 256

@@ -1,11 +1,12 @@
 -- The points and their places (document 01, "Points and order", first paragraph).
-use mathlib.Core.List.{List, [], _∷_, map, flatMap}
+use mathlib.Core.List.{List, [], _∷_}
 use mathlib.Core.Bool.{Bool}
 use Prim.Native.Nat.{ℕ, _+_, _*_, _-_, _/_, _%_}
 use lib.ListN.{getD}
 use Rattle.laws.specs.Range.{countTo, keepTo}
+use Rattle.laws.specs.Nearest.{nearest}
 use Rattle.grid.specs.Limits.{unit}
-use Rattle.grid.specs.Grid.{Size, Kind, coordinate, along, otherEnd, edgeCount, crossed, mark}
+use Rattle.grid.specs.Grid.{Size, Kind, coordinate, along, otherEnd, edgeCount, crossed}
 
 -- |a - b|
 abbrev pub apart : ℕ → ℕ → ℕ
@@ -13,7 +14,7 @@ apart a b = (a - b) + (b - a)
 
 -- 256 · |g - v0| / |v1 - v0| to the nearest whole number, halves up
 unfoldable pub offset : ℕ → ℕ → ℕ → ℕ
-offset v0 v1 grey = (2 * (unit * apart grey v0) + apart v1 v0) / (2 * apart v1 v0)
+offset v0 v1 grey = nearest (unit * apart grey v0) (apart v1 v0)
 
 module _ (k : Kind) (n : Size) where
   -- one point per crossed grid edge, in rising order of grid edge number

@@ -9,6 +9,7 @@ pub mod Binary
 pub mod Halves
 pub mod Words
 pub mod Scan
+pub mod Nearest
 pub mod Rooms
 pub mod Writes
 pub mod Sides

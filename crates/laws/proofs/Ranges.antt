@@ -1,10 +1,10 @@
 -- Sums, joins and counts over a range: one step more, parts and blocks of the range, and equal terms.
 use mathlib.Core.Path.{_≡_, refl, ap, ap₂, sym, _∙_}
 use mathlib.Core.List.{List, [], _∷_, _++_, map, flatMap, append-assoc, append-nil, map-append}
-use mathlib.Core.Bool.{Bool, true, false, cond}
+use mathlib.Core.Bool.{Bool, cond}
 use Prim.Native.Nat.{ℕ, zero, suc, _+_, _*_, _<_, _≤_}
 use native.Mathlib.Decide.{decLt}
-use native.Mathlib.Nat.{mul-suc, mul-zero, add-zero, add-suc, add-assoc}
+use native.Mathlib.Nat.{mul-suc, mul-zero, add-zero, add-suc}
 use native.Mathlib.Numerals.{add-one}
 use native.Mathlib.Omega.{arith}
 use lib.ListN.{length, length-append}
@@ -76,7 +76,8 @@ unfolding joinTo
 map-join g zero f = refl
 map-join g (suc n) f = map-append g (joinTo n f) (f n) ∙ ap (λ a. a ++ map g (f n)) (map-join g n f)
 
-flat-append : {A B : Type 0} (g : A → List B) (xs ys : List A) → flatMap g (xs ++ ys) ≡ flatMap g xs ++ flatMap g ys
+-- a list made from a join of two lists
+pub flat-append : {A B : Type 0} (g : A → List B) (xs ys : List A) → flatMap g (xs ++ ys) ≡ flatMap g xs ++ flatMap g ys
 unfolding flatMap
 flat-append g [] ys = refl
 flat-append g (x ∷ xs) ys = rw (flat-append g xs ys) (sym (append-assoc (g x) (flatMap g xs) (flatMap g ys)))
@@ -111,3 +112,10 @@ pub of-join : {A : Type 0} (P : List A → Type 0) → P [] → ((xs ys : List A
 unfolding joinTo
 of-join P none both zero f h = none
 of-join P none both (suc n) f h = both (joinTo n f) (f n) (of-join P none both n f (λ i l. h i (omega arith))) (h n (omega arith))
+
+-- lists of one length joined
+pub length-flat : {A B : Type 0} (width : ℕ) (g : A → List B) → ((a : A) → length (g a) ≡ width) → (xs : List A)
+    → length (flatMap g xs) ≡ width * length xs
+unfolding flatMap
+length-flat width g even [] = omega (arith, mul-zero width)
+length-flat width g even (x ∷ xs) = simp length-append (omega (arith, even x, length-flat width g even xs, mul-suc width (length xs)))

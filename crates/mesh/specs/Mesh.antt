@@ -1,8 +1,7 @@
 -- A mesh in three lists: points, three coordinates each; triangles, three point numbers each; and marks. V is the length of the marks.
-use mathlib.Core.List.{List, [], _∷_}
+use mathlib.Core.List.{List}
 use Prim.Native.Nat.{ℕ, _+_, _*_, _/_}
 use lib.ListN.{length, getD}
-use Rattle.laws.specs.Range.{joinTo}
 use Rattle.laws.specs.Mesh.{Triangle, triangle}
 
 -- how many triangles a list of numbers holds, and the i-th of them
@@ -11,7 +10,3 @@ triangleCount ts = length ts / 3
 
 abbrev pub triangleAt : List ℕ → ℕ → Triangle
 triangleAt ts i = triangle (getD ts (3 * i) 0) (getD ts (3 * i + 1) 0) (getD ts (3 * i + 2) 0)
-
--- its triangles, in order
-unfoldable pub trianglesIn : List ℕ → List Triangle
-trianglesIn ts = joinTo (triangleCount ts) (λ i. triangleAt ts i ∷ [])

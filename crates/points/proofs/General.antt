@@ -1,14 +1,16 @@
 -- Laws over bits, counts, kept numbers, joined lists and writes that belong to no one part.
-use mathlib.Core.Path.{_≡_, refl, sym}
-use mathlib.Core.List.{List, [], _∷_, _++_, map, flatMap, append-assoc, append-nil, map-append}
-use mathlib.Core.Bool.{Bool, true, false, not, xor}
-use Prim.Native.Nat.{ℕ, zero, suc, _+_, _*_, _%_, _<_, _≤_}
-use native.Mathlib.Nat.{mul-le-mul-right, mul-zero, mul-suc, mul-add, add-zero, add-suc}
+use mathlib.Core.Path.{_≡_, refl}
+use mathlib.Core.List.{List, [], _∷_, _++_, map, flatMap, map-append}
+use mathlib.Core.Bool.{Bool, false, cond, not, xor}
+use Prim.Native.Nat.{ℕ, zero, suc, _+_, _*_, _-_, _%_, _<_, _≤_}
+use native.Mathlib.Nat.{mul-le-mul-right, mul-add}
 use native.Mathlib.Omega.{arith}
 use lib.Dec.{eqb}
-use lib.ListN.{length, length-append, length-map}
+use lib.ListN.{length, length-map}
 use lib.Seq.{sets}
-use Rattle.laws.specs.Range.{countTo, sumTo, joinTo, keepTo, one-if}
+use Rattle.laws.specs.Range.{countTo, sumTo, keepTo, one-if}
+use Rattle.laws.proofs.Binary.{bit-le}
+use Rattle.laws.proofs.Ranges.{sum-quiet, join-quiet, flat-append, length-flat}
 use Rattle.laws.proofs.Writes.{sets-append}
 
 -- two remainders by 2 differ when one of them is 1 and the other not
@@ -29,39 +31,23 @@ bit-times k n =
     omega (arith, mul-le-mul-right n small)
 
 -- a count is at most the range
-pub one-at-most : (b : Bool) → one-if b ≤ 1
-one-at-most true = omega arith
-one-at-most false = omega arith
-
 pub count-le : (n : ℕ) (p : ℕ → Bool) → countTo n p ≤ n
 unfolding countTo sumTo
 count-le zero p = omega arith
-count-le (suc n) p = omega (arith, count-le n p, one-at-most (p n))
+count-le (suc n) p = omega (arith, count-le n p, bit-le (p n))
 
 -- nothing passes
 pub count-none : (n : ℕ) (p : ℕ → Bool) → ((i : ℕ) → i < n → p i ≡ false) → countTo n p ≡ 0
 unfolding countTo sumTo
-count-none zero p none = refl
-count-none (suc n) p none = rw (none n (omega arith)) (omega (arith, count-none n p (λ i l. none i (omega arith))))
+count-none n p none = sum-quiet 0 n (λ i. one-if (p i)) (omega arith) (λ i a b. rw (none i b))
 
 -- nothing passes beyond n
 pub keep-none : (n len : ℕ) (p : ℕ → Bool) → ((i : ℕ) → i < len → p (n + i) ≡ false) → keepTo (n + len) p ≡ keepTo n p
-unfolding keepTo joinTo
-keep-none n zero p none = rw add-zero
-keep-none n (suc len) p none = rw (add-suc, none len (omega arith), append-nil) (keep-none n len p (λ i l. none i (omega arith)))
-
--- a list made from a join of two lists
-flat-append : {A B : Type 0} (g : A → List B) (xs ys : List A) → flatMap g (xs ++ ys) ≡ flatMap g xs ++ flatMap g ys
-unfolding flatMap
-flat-append g [] ys = refl
-flat-append g (x ∷ xs) ys = rw (flat-append g xs ys) (sym (append-assoc (g x) (flatMap g xs) (flatMap g ys)))
-
--- lists of one length joined
-pub length-flat : {A B : Type 0} (width : ℕ) (g : A → List B) → ((a : A) → length (g a) ≡ width) → (xs : List A)
-    → length (flatMap g xs) ≡ width * length xs
-unfolding flatMap
-length-flat width g even [] = omega (arith, mul-zero width)
-length-flat width g even (x ∷ xs) = simp length-append (omega (arith, even x, length-flat width g even xs, mul-suc width (length xs)))
+unfolding keepTo
+keep-none n len p none = join-quiet n (n + len) (λ i. cond (p i) (i ∷ []) []) (omega arith) (λ i a b. rw (beyond i (i - n) (omega arith) (omega arith)))
+  where
+    beyond : (i k : ℕ) → i ≡ n + k → k < len → p i ≡ false
+    beyond i k is l = rw is (none k l)
 
 -- of a list that was mapped, and with another function in place of one that gives the same
 pub flat-map : {A B C : Type 0} (g : B → List C) (f : A → B) (h : A → List C) → ((a : A) → g (f a) ≡ h a) → (xs : List A)

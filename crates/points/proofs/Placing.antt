@@ -7,10 +7,11 @@ use native.Mathlib.Nat.{div-le-self}
 use native.Mathlib.Omega.{arith}
 use lib.ListN.{length, getD, length-map}
 use lib.Seq.{sets}
+use Rattle.laws.specs.Nearest.{nearest}
 use Rattle.laws.specs.Range.{one-if, sumTo, countTo, joinTo, keepTo}
 use Rattle.laws.specs.Room.{laid}
 use Rattle.laws.proofs.Keep.{length-keep, keep-next, count-next}
-use Rattle.laws.proofs.Ranges.{count-split}
+use Rattle.laws.proofs.Ranges.{count-split, length-flat}
 use Rattle.laws.proofs.Writes.{sets-front}
 use Rattle.grid.specs.Limits.{unit}
 use Rattle.grid.specs.Grid.{Size, axes, otherEnd, edgeCount, crossed, mark, onFace}
@@ -23,11 +24,11 @@ use Rattle.points.specs.Rows.{sizeOf}
 use Rattle.points.specs.Numbers.{nextNumber}
 use Rattle.points.specs.Places.{Rooms, coordinates, written, withPoint, stepOf, pointBy, pointFrom, pointAt, pointsBelow, countBelow, RoomsFor, Placeable, SamplePlaced, Advanced}
 use Rattle.points.proofs.Cut.{Tested}
-use Rattle.points.proofs.General.{count-none, keep-none, length-flat, flat-map, flat-sets, map-sets}
+use Rattle.points.proofs.General.{count-none, keep-none, flat-map, flat-sets, map-sets}
 
 -- the offset of samples of sixteen bits is far below what a coordinate's type holds
 pub offset-small : (v0 v1 grey : ℕ) → v0 < 2 ^ 16 → v1 < 2 ^ 16 → grey < 2 ^ 16 → offset v0 v1 grey < 2 ^ 26
-unfolding offset
+unfolding offset nearest
 offset-small v0 v1 grey a b c = omega (arith, div-le-self (2 * (unit * apart grey v0) + apart v1 v0) (2 * apart v1 v0))
 
 -- the point that was written, made from the samples that were read, as the definition has it

@@ -13,8 +13,8 @@ use lib.Seq.{sets, take-suc, length-take-le}
 use Rattle.laws.specs.Range.{one-if, sumTo, joinTo, joinBox}
 use Rattle.laws.specs.Bits.{bit, halved}
 use Rattle.laws.specs.Sum.{All}
-use Rattle.laws.specs.Mesh.{Triangle, rename, flat, sides}
-use Rattle.laws.proofs.Ranges.{sum-cong, join-cong, join-next, join-split, length-join, map-join, flat-join}
+use Rattle.laws.specs.Mesh.{Triangle, rename, cornersOf, flat, sides}
+use Rattle.laws.proofs.Ranges.{sum-cong, join-cong, join-next, join-split, length-join, length-flat, map-join, flat-join}
 use Rattle.laws.proofs.Halves.{halved-next, bit-halved}
 use Rattle.laws.proofs.Writes.{sets-append}
 
@@ -104,10 +104,9 @@ pub map-cong : {A B : Type 0} (P : A → Type 0) (f g : A → B) → ((a : A) �
 map-cong P f g h [] a = refl
 map-cong P f g h (x ∷ xs) a = ap₂ _∷_ (h x (a .0)) (map-cong P f g h xs (a .1))
 
-pub length-flat : (ts : List Triangle) → length (flat ts) ≡ 3 * length ts
-unfolding flat flatMap
-length-flat [] = refl
-length-flat (t ∷ ts) = omega (arith, length-flat ts)
+pub length-corners : (ts : List Triangle) → length (flat ts) ≡ 3 * length ts
+unfolding flat
+length-corners ts = length-flat 3 cornersOf (λ t. refl) ts
 
 -- corners renamed before or after they are put in a list
 pub flat-renamed : (f : ℕ → ℕ) (ts : List Triangle) → flat (map (rename f) ts) ≡ map f (flat ts)

@@ -21,7 +21,7 @@ use Rattle.grid.specs.Work.{size, Numbered}
 use Rattle.masks.specs.Masks.{maskAbove}
 use Rattle.triangles.specs.Row.{masksAt, rowCase, edgeOffset, cubeNumbers, rowNumbers, layerNumbers}
 use Rattle.triangles.specs.Walk.{LayerRoom, Written}
-use Rattle.triangles.proofs.General.{box-cong, map-box, flat-box, map-cong, length-flat, flat-renamed, join-room}
+use Rattle.triangles.proofs.General.{box-cong, map-box, flat-box, map-cong, length-corners, flat-renamed, join-room}
 use Rattle.triangles.proofs.Cases.{corners-crossed, case-of-masks}
 use Rattle.grid.proofs.Edges.{grid-edge-small, grid-edge-crossed}
 use Rattle.triangles.proofs.Edges.{offset-at, edge-place}
@@ -86,7 +86,7 @@ module _ (nx ny nz : ℕ) (masks : List ℕ) where
     unfolding mesh
     grid-length =
         ap length grid-meshed
-        ∙ length-flat (mesh n above)
+        ∙ length-corners (mesh n above)
         ∙ ap (λ k. 3 * k) (length-map (edgeMesh n above) (rename (number axes n above)))
 
     layerOf : ℕ → List ℕ

@@ -14,14 +14,14 @@ use Rattle.cube.proofs.Cases.{CrossedEdge}
 use Rattle.triangles.specs.declared.RowMasks.{RowMasks}
 use Rattle.triangles.specs.Row.{masksAt, rowCase, cubeNumbers, rowNumbers, layerNumbers}
 use Rattle.triangles.specs.Walk.{CubeRoom, RowRoom, LayerRoom, Written}
-use Rattle.triangles.proofs.General.{all-get, map-at, length-flat, sets-next, join-room}
+use Rattle.triangles.proofs.General.{all-get, map-at, length-corners, sets-next, join-room}
 use Rattle.triangles.proofs.Cases.{corner-in-table, corners-crossed, row-case-small}
 
 -- a cube's numbers
 module _ (offsets work : List ℕ) (edge k : ℕ) where
   pub length-cube : length (cubeNumbers offsets work edge k) ≡ 3 * count k
   unfolding cubeNumbers count
-  length-cube = length-map (flat (triangles k)) (λ e. getD work (edge + getD offsets e 0) 0) ∙ length-flat (triangles k)
+  length-cube = length-map (flat (triangles k)) (λ e. getD work (edge + getD offsets e 0) 0) ∙ length-corners (triangles k)
 
 -- the edge number that is read from the table, and the number that is then written
 module _ (rows : List ℕ) (right : rows ≡ table) (k j : ℕ) (h : k < 256) (l : j < 3 * count k) where
@@ -31,7 +31,7 @@ module _ (rows : List ℕ) (right : rows ≡ table) (k j : ℕ) (h : k < 256) (l
   pub edge-small : getD rows (15 * k + j) 0 < 12
   unfolding count
   edge-small =
-      rw edge-read (all-get (CrossedEdge k) (flat (triangles k)) j 0 (corners-crossed k h) (omega (arith, length-flat (triangles k))) .small)
+      rw edge-read (all-get (CrossedEdge k) (flat (triangles k)) j 0 (corners-crossed k h) (omega (arith, length-corners (triangles k))) .small)
 
   pub cube-next : (offsets work : List ℕ) (edge : ℕ) (room : List ℕ) (at : ℕ)
       → set (sets room at (take j (cubeNumbers offsets work edge k))) (at + j) (getD work (edge + getD offsets (getD rows (15 * k + j) 0) 0) 0)
@@ -39,7 +39,7 @@ module _ (rows : List ℕ) (right : rows ≡ table) (k j : ℕ) (h : k < 256) (l
   unfolding cubeNumbers count
   cube-next offsets work edge room at =
       let number : ℕ → ℕ = λ e. getD work (edge + getD offsets e 0) 0 in
-      rw (edge-read, ← (map-at number (flat (triangles k)) j 0 0 (omega (arith, length-flat (triangles k)))))
+      rw (edge-read, ← (map-at number (flat (triangles k)) j 0 0 (omega (arith, length-corners (triangles k)))))
       (sets-next room at (cubeNumbers offsets work edge k) j 0 (omega (arith, length-cube offsets work edge k)))
 
 -- a list written, and another after it

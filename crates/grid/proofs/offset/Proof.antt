@@ -1,6 +1,7 @@
 -- `grid::offset` meets its contract: the definition's own arithmetic, which fits. Assumes nothing.
 use mathlib.Core.Path.{refl}
 use borrow.Author.Needs.{needs}
+use Rattle.laws.specs.Nearest.{nearest}
 use Rattle.grid.specs.Point.{offset}
 use Rattle.grid.proofs.offset.Statement.{statement}
 use Rattle.grid.proofs.offset.Tie as tie
@@ -27,7 +28,7 @@ div-result : tie.Need-div-result
 div-result c = search needs
 
 returns : tie.Need-returns
-unfolding offset
+unfolding offset nearest
 returns c = rw (c .apart-by2 .ensures, c .before .apart-by .ensures)
 
 pub offset-spec : {M : Type 1} → statement M

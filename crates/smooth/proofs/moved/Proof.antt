@@ -3,13 +3,14 @@ use mathlib.Core.Path.{refl}
 use Prim.Native.Nat.{_+_, _*_, _-_, _≤_}
 use native.Mathlib.Omega.{arith}
 use borrow.Author.Needs.{needs}
-use Rattle.grid.specs.Limits.{unit, mostPoints, mostCoordinate}
+use Rattle.laws.specs.Nearest.{nearest}
+use Rattle.grid.specs.Limits.{mostWeight, mostPoints, mostCoordinate}
 use Rattle.smooth.specs.Round.{moved}
 use Rattle.smooth.proofs.Weighed.{moved-small, parts-small}
 use Rattle.smooth.proofs.moved.Statement.{statement}
 use Rattle.smooth.proofs.moved.Tie as tie
 
-small : (c : tie.Start) → let a = c .args in ((unit - a .weight) * a .d ≤ unit * mostPoints) × ((unit - a .weight) * a .d * a .p + a .weight * a .sum ≤ unit * (mostPoints * mostCoordinate))
+small : (c : tie.Start) → let a = c .args in ((mostWeight - a .weight) * a .d ≤ mostWeight * mostPoints) × ((mostWeight - a .weight) * a .d * a .p + a .weight * a .sum ≤ mostWeight * (mostPoints * mostCoordinate))
 small c = let a = c .args in parts-small (a .weight) (a .d) (a .p) (a .sum) (c .pre .0) (c .pre .1 .0 .1) (c .pre .1 .1 .0) (c .pre .1 .1 .1)
 
 cast-whole : tie.Need-cast-whole
@@ -49,7 +50,7 @@ div-result : tie.Need-div-result
 div-result c = search needs
 
 returns : tie.Need-returns
-unfolding moved
+unfolding moved nearest
 returns c =
     let a = c .args in
     (refl, moved-small (a .weight) (a .d) (a .p) (a .sum) mostCoordinate (c .pre .0) (c .pre .1 .0 .0) (c .pre .1 .1 .0) (c .pre .1 .1 .1))

@@ -1,7 +1,7 @@
 -- `points::numbers::number_sample` meets its contract: the three edges one after the other. Assumes nothing.
 use native.Mathlib.Omega.{arith}
 use borrow.Author.Needs.{needs}
-use Rattle.points.proofs.General.{one-at-most}
+use Rattle.laws.proofs.Binary.{bit-le}
 use Rattle.points.proofs.numbers.number_sample.Statement.{statement}
 use Rattle.points.proofs.numbers.number_sample.Tie as tie
 
@@ -12,13 +12,13 @@ add-number-edge : tie.Need-add-number-edge
 add-number-edge c = search needs
 
 number-edge-requires-2 : tie.Need-number-edge-requires-2
-number-edge-requires-2 c κs = omega (arith, one-at-most (c .before .before .before .before .before .before .args .cuts .x))
+number-edge-requires-2 c κs = omega (arith, bit-le (c .before .before .before .before .before .before .args .cuts .x))
 
 add-number-edge-2 : tie.Need-add-number-edge-2
 add-number-edge-2 c = search needs
 
 number-edge-requires-3 : tie.Need-number-edge-requires-3
-number-edge-requires-3 c κs = let a = c .before .before .before .before .before .before .before .before .before .before .args in omega (arith, one-at-most (a .cuts .x), one-at-most (a .cuts .y))
+number-edge-requires-3 c κs = let a = c .before .before .before .before .before .before .before .before .before .before .args in omega (arith, bit-le (a .cuts .x), bit-le (a .cuts .y))
 
 same-length : tie.Need-same-length
 same-length c = search needs
