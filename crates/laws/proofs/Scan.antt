@@ -1,12 +1,12 @@
 -- A word scanned from set bit to set bit: b is halved x times so far, and the next set bit is as far on as there are zeros below it.
 use mathlib.Core.Path.{_≡_, ap, sym, _∙_}
 use mathlib.Core.Bool.{true, false}
-use Prim.Native.Nat.{ℕ, _+_, _-_, _^_, _<_, _≤_}
+use Prim.Native.Nat.{ℕ, _+_, _-_, _/_, _^_, _<_, _≤_}
 use native.Mathlib.Omega.{arith}
 use lib.Count.{trailingZeros}
 use Rattle.laws.specs.Bits.{bit, halved}
-use Rattle.laws.proofs.Halves.{bit-of-zero}
-use Rattle.laws.proofs.Words.{bit-below, bit-lowest, bit-of-halved}
+use Rattle.laws.proofs.Halves.{bit-of-zero, halved-next}
+use Rattle.laws.proofs.Words.{bit-below, bit-lowest, bit-of-halved, halved-more}
 
 module _ (width b x : ℕ) where
   -- up to there no bit is set
@@ -24,3 +24,7 @@ module _ (width b x : ℕ) where
   scan-done z i h =
       let e : x + (i - x) ≡ i = omega arith in
       ap (bit b) (sym e) ∙ sym (bit-of-halved b x (i - x)) ∙ ap (λ n. bit n (i - x)) z ∙ bit-of-zero (i - x)
+
+  -- past the next set bit the word is halved once more
+  pub scan-next : (k : ℕ) → halved b x / 2 ^ k / 2 ≡ halved b (x + k + 1)
+  scan-next k = ap (λ n. n / 2) (halved-more b x k) ∙ sym (halved-next b (x + k))

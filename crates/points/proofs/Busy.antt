@@ -10,10 +10,9 @@ use lib.Count.{trailingZeros}
 use lib.Dec.{ltb}
 use borrow.Author.Tests.{ltb-true, lt-ltb}
 use Rattle.laws.specs.Bits.{bit, halved}
-use Rattle.laws.proofs.Halves.{halved-next}
-use Rattle.laws.proofs.Words.{bit-and, bit-or, bit-xor, halved-more, lowest-small}
+use Rattle.laws.proofs.Words.{bit-and, bit-or, bit-xor, lowest-small}
 use Rattle.laws.proofs.Tests.{both}
-use Rattle.laws.proofs.Scan.{scan-quiet, scan-found, scan-done}
+use Rattle.laws.proofs.Scan.{scan-quiet, scan-found, scan-done, scan-next}
 use Rattle.grid.specs.Grid.{axes, crossed}
 use Rattle.masks.specs.Masks.{maskAbove}
 use Rattle.points.specs.declared.rows.Sides.{Sides}
@@ -143,5 +142,5 @@ module _ (sides : Sides) (ready : Ready sides) (masks : List ℕ) (y z : ℕ) (h
           there = there;
           uncut = run-uncut x skip (omega arith) (λ i l u. scan-quiet 64 word x i l (rw is at u));
           left =
-              ap (λ m. m / 2 ^ skip / 2) is ∙ ap (λ m. m / 2) (halved-more word x skip) ∙ sym (halved-next word (x + skip));
+              ap (λ m. m / 2 ^ skip / 2) is ∙ scan-next 64 word x skip;
         }

@@ -7,9 +7,8 @@ use native.Mathlib.Omega.{arith}
 use borrow.Author.Tests.{ltb-true, lt-ltb}
 use lib.Count.{trailingZeros}
 use Rattle.laws.specs.Bits.{bit, halved}
-use Rattle.laws.proofs.Halves.{halved-next}
-use Rattle.laws.proofs.Words.{lowest-small, halved-more}
-use Rattle.laws.proofs.Scan.{scan-quiet, scan-found, scan-done}
+use Rattle.laws.proofs.Words.{lowest-small}
+use Rattle.laws.proofs.Scan.{scan-quiet, scan-found, scan-done, scan-next}
 use Rattle.cube.specs.Answer.{count}
 use Rattle.triangles.specs.declared.RowMasks.{RowMasks}
 use Rattle.triangles.specs.Row.{masksAfter, masksPast, masksFrom, rowCase}
@@ -68,7 +67,7 @@ module _ (row : RowMasks) (cubes full b : ℕ) (ones : AllSet (cubes + 1) full) 
               record {
                 within = omega arith;
                 masks = f ∙ ap masksAfter (e ∙ past) ∙ masks-next row (x + k);
-                word = ap (λ n. n / 2 ^ k / 2) (p .word) ∙ ap (λ n. n / 2) (halved-more b x k) ∙ sym (halved-next b (x + k));
+                word = ap (λ n. n / 2 ^ k / 2) (p .word) ∙ scan-next 64 b x k;
                 fits = omega (arith, p .fits);
               };
         }

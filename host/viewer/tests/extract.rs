@@ -270,51 +270,38 @@ fn rooms_one_too_short_exact_and_long() {
                 ..fit
             });
         }
+        let refuses = |number, lengths| refused(sides, 50, &samples, lengths, number);
         for less in [1, 2, 3] {
             for triangles in [0, fit.triangles - 1, fit.triangles] {
-                refused(
-                    sides,
-                    50,
-                    &samples,
+                let short = Lengths { triangles, ..fit };
+                refuses(
+                    4,
                     Lengths {
                         points: fit.points - less,
-                        triangles,
-                        ..fit
+                        ..short
                     },
-                    4,
                 );
-                refused(
-                    sides,
-                    50,
-                    &samples,
+                refuses(
+                    4,
                     Lengths {
                         edges: fit.edges - 1,
-                        triangles,
-                        ..fit
+                        ..short
                     },
-                    4,
                 );
-                refused(
-                    sides,
-                    50,
-                    &samples,
+                refuses(
+                    4,
                     Lengths {
                         marks: fit.marks - 1,
-                        triangles,
-                        ..fit
+                        ..short
                     },
-                    4,
                 );
             }
-            refused(
-                sides,
-                50,
-                &samples,
+            refuses(
+                5,
                 Lengths {
                     triangles: fit.triangles - less,
                     ..fit
                 },
-                5,
             );
         }
     }
