@@ -4,6 +4,7 @@ pub mod Ranges
 pub mod Keep
 pub mod Rows
 pub mod Sums
+pub mod Some
 pub mod Rearranged
 pub mod Binary
 pub mod Halves

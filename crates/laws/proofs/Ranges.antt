@@ -1,14 +1,17 @@
 -- Sums, joins and counts over a range: one step more, parts and blocks of the range, and equal terms.
 use mathlib.Core.Path.{_≡_, refl, ap, ap₂, sym, _∙_}
 use mathlib.Core.List.{List, [], _∷_, _++_, map, flatMap, append-assoc, append-nil, map-append}
-use mathlib.Core.Bool.{Bool, cond}
-use Prim.Native.Nat.{ℕ, zero, suc, _+_, _*_, _<_, _≤_}
+use mathlib.Core.Bool.{Bool, false, cond, _||_}
+use Prim.Native.Nat.{ℕ, zero, suc, _+_, _*_, _-_, _<_, _≤_}
 use native.Mathlib.Decide.{decLt}
 use native.Mathlib.Nat.{mul-suc, mul-zero, add-zero, add-suc}
 use native.Mathlib.Numerals.{add-one}
 use native.Mathlib.Omega.{arith}
+use lib.Dec.{eqb}
+use borrow.Author.Tests.{eq-eqb, ne-eqb}
 use lib.ListN.{length, length-append}
-use Rattle.laws.specs.Range.{sumTo, joinTo, countTo, keepTo, one-if}
+use Rattle.laws.specs.Range.{sumTo, joinTo, countTo, keepTo, someTo, one-if}
+use Rattle.laws.proofs.Binary.{bit-le}
 
 -- one step of a walk, at n + 1 as the code has it
 pub sum-next : (n : ℕ) (f : ℕ → ℕ) → sumTo (n + 1) f ≡ sumTo n f + f n
@@ -38,6 +41,11 @@ pub keep-cong : (n : ℕ) (p q : ℕ → Bool) → ((i : ℕ) → i < n → p i 
 unfolding keepTo
 keep-cong n p q h =
     join-cong n (λ i. cond (p i) (i ∷ []) []) (λ i. cond (q i) (i ∷ []) []) (λ i l. ap (λ b. cond b (i ∷ []) []) (h i l))
+
+pub some-cong : (n : ℕ) (p q : ℕ → Bool) → ((i : ℕ) → i < n → p i ≡ q i) → someTo n p ≡ someTo n q
+unfolding someTo
+some-cong zero p q h = refl
+some-cong (suc n) p q h = ap₂ _||_ (h n (omega arith)) (some-cong n p q (λ i l. h i (omega arith)))
 
 -- a range in two parts
 pub sum-split : (m n : ℕ) (f : ℕ → ℕ) → sumTo (m + n) f ≡ sumTo m f + sumTo n (λ i. f (m + i))
@@ -119,3 +127,49 @@ pub length-flat : {A B : Type 0} (width : ℕ) (g : A → List B) → ((a : A) �
 unfolding flatMap
 length-flat width g even [] = omega (arith, mul-zero width)
 length-flat width g even (x ∷ xs) = simp length-append (omega (arith, even x, length-flat width g even xs, mul-suc width (length xs)))
+
+-- sums added up term by term
+pub sum-add : (n : ℕ) (f g : ℕ → ℕ) → sumTo n (λ i. f i + g i) ≡ sumTo n f + sumTo n g
+unfolding sumTo
+sum-add zero f g = refl
+sum-add (suc n) f g = omega (arith, sum-add n f g)
+
+-- a sum rises with its range
+pub sum-rises : (m n : ℕ) (f : ℕ → ℕ) → m ≤ n → sumTo m f ≤ sumTo n f
+sum-rises m n f h =
+    let e : n ≡ m + (n - m) = omega arith in
+    rw e (omega (arith, sum-split m (n - m) f))
+
+-- a count is at most the range
+pub count-le : (n : ℕ) (p : ℕ → Bool) → countTo n p ≤ n
+unfolding countTo sumTo
+count-le zero p = omega arith
+count-le (suc n) p = omega (arith, count-le n p, bit-le (p n))
+
+-- nothing passes
+pub count-none : (n : ℕ) (p : ℕ → Bool) → ((i : ℕ) → i < n → p i ≡ false) → countTo n p ≡ 0
+unfolding countTo sumTo
+count-none n p none = sum-quiet 0 n (λ i. one-if (p i)) (omega arith) (λ i a b. rw (none i b))
+
+-- nothing passes beyond n
+pub keep-none : (n len : ℕ) (p : ℕ → Bool) → ((i : ℕ) → i < len → p (n + i) ≡ false) → keepTo (n + len) p ≡ keepTo n p
+unfolding keepTo
+keep-none n len p none = join-quiet n (n + len) (λ i. cond (p i) (i ∷ []) []) (omega arith) (λ i a b. rw (beyond i (i - n) (omega arith) (omega arith)))
+  where
+    beyond : (i k : ℕ) → i ≡ n + k → k < len → p i ≡ false
+    beyond i k is l = rw is (none k l)
+
+-- what one number of the range is worth by itself
+pub sum-picks : (n k x : ℕ) → k < n → sumTo n (λ i. cond (eqb k i) x 0) ≡ x
+unfolding sumTo
+sum-picks zero k x l = absurd (omega arith)
+sum-picks (suc n) k x l = go (decLt k n) (λ l′. sum-picks n k x l′)
+  where
+    other : (i : ℕ) → (k ≡ i → ⊥) → cond (eqb k i) x 0 ≡ 0
+    other i d = rw (ne-eqb k i d)
+
+    go : Dec (k < n) → (k < n → sumTo n (λ i. cond (eqb k i) x 0) ≡ x) → sumTo n (λ i. cond (eqb k i) x 0) + cond (eqb k n) x 0 ≡ x
+    go (yes l′) below = omega (arith, below l′, other n (λ e. absurd (omega arith)))
+    go (no ge) below =
+        let e : k ≡ n = omega arith in
+        rw (eq-eqb k n e) (omega (arith, sum-quiet 0 n (λ i. cond (eqb k i) x 0) (omega arith) (λ i a b. other i (λ q. absurd (omega arith)))))

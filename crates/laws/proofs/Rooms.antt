@@ -2,9 +2,10 @@
 use mathlib.Core.Path.{_≡_, refl, ap, sym, _∙_}
 use mathlib.Core.List.{List, [], _∷_, _++_, append-assoc}
 use Prim.Native.Nat.{ℕ, suc, _+_, _<_, _≤_}
+use native.Mathlib.Decide.{decLt}
 use native.Mathlib.Numerals.{add-one}
 use native.Mathlib.Omega.{arith}
-use lib.ListN.{length, getD, drop, set, length-append, length-drop, List·getD-append}
+use lib.ListN.{length, getD, drop, set, replicate, length-append, length-drop, getD-replicate, length-replicate, List·getD-append, List·getD-eq-default}
 use lib.Seq.{drop-cons, set-append-seam, getD-append-add, getD-drop}
 use Rattle.laws.specs.Room.{laid}
 
@@ -28,3 +29,11 @@ module _ {A : Type 0} (xs room : List A) where
   unfolding laid
   laid-next v h =
       rw (drop-cons room (length xs) v h, set-append-seam xs (getD room (length xs) v) (drop (suc (length xs)) room) v, length-append, add-one, append-assoc)
+
+-- a room of zeros holds zero, and so it is said of what lies beyond it
+pub zeros-at : (n i : ℕ) → _≡_ {A = ℕ} (getD (replicate n 0) i 0) 0
+zeros-at n i = go (decLt i n)
+  where
+    go : Dec (i < n) → _≡_ {A = ℕ} (getD (replicate n 0) i 0) 0
+    go (yes l) = getD-replicate n i 0 0 l
+    go (no l) = List·getD-eq-default (replicate n 0) 0 (rw (length-replicate {A = ℕ} n 0) (omega arith))

@@ -1,11 +1,12 @@
 -- What arrows and the sides of triangles weigh together: joined, turned round, renamed, rearranged. Each law holds for every weight.
-use mathlib.Core.Path.{_≡_, refl, ap, ap₂}
+use mathlib.Core.Path.{_≡_, refl, ap, ap₂, _∙_}
 use mathlib.Core.List.{List, [], _∷_, _++_, map}
 use mathlib.Core.Bool.{Bool, true, _&&_}
-use Prim.Native.Nat.{ℕ, _+_}
+use Prim.Native.Nat.{ℕ, zero, suc, _+_}
 use native.Mathlib.Omega.{arith}
 use lib.Dec.{eqb}
 use borrow.Author.Tests.{eqb-true}
+use Rattle.laws.specs.Range.{joinTo}
 use Rattle.laws.specs.Sum.{sumOf, All}
 use Rattle.laws.specs.Order.{rearranged}
 use Rattle.laws.specs.Mesh.{Arrow, arrow, sameArrow, flip, Triangle, rename, sides, total}
@@ -48,3 +49,8 @@ pub all-renamed : (P : Arrow → Type 0) (f : ℕ → ℕ) (ts : List Triangle) 
 unfolding sides
 all-renamed P f [] a = tt
 all-renamed P f (t ∷ ts) a = (a .0, (a .1 .0, (a .1 .1 .0, all-renamed P f ts (a .1 .1 .1))))
+
+pub sides-join : (n : ℕ) (f : ℕ → List Triangle) → sides (joinTo n f) ≡ joinTo n (λ i. sides (f i))
+unfolding joinTo sides
+sides-join zero f = refl
+sides-join (suc n) f = sides-append (joinTo n f) (f n) ∙ ap (λ xs. xs ++ sides (f n)) (sides-join n f)

@@ -3,6 +3,7 @@ use mathlib.Core.Path.{_≡_, refl, _∙_}
 use mathlib.Core.List.{List, [], _∷_, _++_, map, flatMap, List·Memᴰ, List·Memᴰ·head, List·Memᴰ·tail}
 use Prim.Native.Nat.{ℕ, _+_}
 use native.Mathlib.Omega.{arith}
+use lib.ListN.{length}
 use Rattle.laws.specs.Sum.{sumOf, All}
 
 pub sum-append : {A : Type 0} (v : A → ℕ) (xs ys : List A) → sumOf v (xs ++ ys) ≡ sumOf v xs + sumOf v ys
@@ -44,3 +45,9 @@ all-mapped f (x ∷ xs) = (
   List·Memᴰ·head refl,
   all-weaken (λ y. List·Memᴰ (f y) (map f xs)) (λ y. List·Memᴰ (f y) (f x ∷ map f xs)) (λ y m. List·Memᴰ·tail m) xs (all-mapped f xs),
 )
+
+-- a length is a sum of ones
+pub sum-ones : {A : Type 0} (xs : List A) → sumOf (λ a. 1) xs ≡ length xs
+unfolding sumOf
+sum-ones [] = refl
+sum-ones (x ∷ xs) = omega (arith, sum-ones xs)

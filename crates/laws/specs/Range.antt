@@ -1,6 +1,6 @@
 -- Sums, joined lists, counts and tests over the numbers below n, taken in rising order.
 use mathlib.Core.List.{List, [], _∷_, _++_}
-use mathlib.Core.Bool.{Bool, true, false, cond, _&&_}
+use mathlib.Core.Bool.{Bool, true, false, cond, _&&_, _||_}
 use Prim.Native.Nat.{ℕ, zero, suc, _+_}
 
 abbrev pub one-if : Bool → ℕ
@@ -29,6 +29,11 @@ keepTo n p = joinTo n (λ i. cond (p i) (i ∷ []) [])
 unfoldable pub allTo : ℕ → (ℕ → Bool) → Bool
 allTo zero p = true
 allTo (suc n) p = p n && allTo n p
+
+-- does some number below n pass the test
+unfoldable pub someTo : ℕ → (ℕ → Bool) → Bool
+someTo zero p = false
+someTo (suc n) p = p n || someTo n p
 
 -- the lists of the cells of a box joined: x fastest, then y, then z
 unfoldable pub joinBox : {A : Type 0} → ℕ → ℕ → ℕ → (ℕ → ℕ → ℕ → List A) → List A

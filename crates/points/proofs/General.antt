@@ -1,16 +1,14 @@
--- Laws over bits, counts, kept numbers, joined lists and writes that belong to no one part.
+-- Laws over bits, joined lists and writes that belong to no one part.
 use mathlib.Core.Path.{_≡_, refl}
 use mathlib.Core.List.{List, [], _∷_, _++_, map, flatMap, map-append}
-use mathlib.Core.Bool.{Bool, false, cond, not, xor}
-use Prim.Native.Nat.{ℕ, zero, suc, _+_, _*_, _-_, _%_, _<_, _≤_}
+use mathlib.Core.Bool.{not, xor}
+use Prim.Native.Nat.{ℕ, zero, suc, _+_, _*_, _%_, _<_, _≤_}
 use native.Mathlib.Nat.{mul-le-mul-right, mul-add}
 use native.Mathlib.Omega.{arith}
 use lib.Dec.{eqb}
 use lib.ListN.{length, length-map}
 use lib.Seq.{sets}
-use Rattle.laws.specs.Range.{countTo, sumTo, keepTo, one-if}
-use Rattle.laws.proofs.Binary.{bit-le}
-use Rattle.laws.proofs.Ranges.{sum-quiet, join-quiet, flat-append, length-flat}
+use Rattle.laws.proofs.Ranges.{flat-append, length-flat}
 use Rattle.laws.proofs.Writes.{sets-append}
 
 -- two remainders by 2 differ when one of them is 1 and the other not
@@ -29,25 +27,6 @@ pub bit-times : (k n : ℕ) → k % 2 * n ≤ n
 bit-times k n =
     let small : k % 2 ≤ 1 = omega arith in
     omega (arith, mul-le-mul-right n small)
-
--- a count is at most the range
-pub count-le : (n : ℕ) (p : ℕ → Bool) → countTo n p ≤ n
-unfolding countTo sumTo
-count-le zero p = omega arith
-count-le (suc n) p = omega (arith, count-le n p, bit-le (p n))
-
--- nothing passes
-pub count-none : (n : ℕ) (p : ℕ → Bool) → ((i : ℕ) → i < n → p i ≡ false) → countTo n p ≡ 0
-unfolding countTo sumTo
-count-none n p none = sum-quiet 0 n (λ i. one-if (p i)) (omega arith) (λ i a b. rw (none i b))
-
--- nothing passes beyond n
-pub keep-none : (n len : ℕ) (p : ℕ → Bool) → ((i : ℕ) → i < len → p (n + i) ≡ false) → keepTo (n + len) p ≡ keepTo n p
-unfolding keepTo
-keep-none n len p none = join-quiet n (n + len) (λ i. cond (p i) (i ∷ []) []) (omega arith) (λ i a b. rw (beyond i (i - n) (omega arith) (omega arith)))
-  where
-    beyond : (i k : ℕ) → i ≡ n + k → k < len → p i ≡ false
-    beyond i k is l = rw is (none k l)
 
 -- of a list that was mapped, and with another function in place of one that gives the same
 pub flat-map : {A B C : Type 0} (g : B → List C) (f : A → B) (h : A → List C) → ((a : A) → g (f a) ≡ h a) → (xs : List A)

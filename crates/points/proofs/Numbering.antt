@@ -19,7 +19,7 @@ use Rattle.points.specs.declared.rows.Cuts.{Cuts}
 use Rattle.points.specs.Rows.{sizeOf}
 use Rattle.points.specs.Numbers.{nextNumber, SampleNumbered, NumberedTo}
 use Rattle.points.proofs.Cut.{Tested}
-use Rattle.points.proofs.General.{count-le, count-none}
+use Rattle.laws.proofs.Ranges.{count-le, count-none}
 
 module _ (sides : Sides) (masks : List ℕ) where
   abbrev cut : ℕ → Bool

@@ -1,0 +1,81 @@
+-- How long the buckets are, and that together they take all the entries.
+use mathlib.Core.Path.{_≡_, refl, ap, ap₂, sym, _∙_}
+use mathlib.Core.List.{List, [], _∷_, _++_}
+use mathlib.Core.Bool.{Bool, true, false, cond}
+use Prim.Native.Nat.{ℕ, zero, suc, _+_, _*_, _<_, _≤_}
+use native.Mathlib.Nat.{add-zero}
+use native.Mathlib.Omega.{arith}
+use lib.Dec.{eqb}
+use lib.ListN.{length, getD, length-append}
+use Rattle.laws.specs.Range.{sumTo, joinTo, countTo, one-if}
+use Rattle.laws.specs.Mesh.{Triangle}
+use Rattle.laws.proofs.Ranges.{sum-next, sum-cong, sum-add, sum-picks, sum-blocks, sum-rises, sum-quiet, length-join}
+use Rattle.mesh.specs.Mesh.{triangleCount, triangleAt}
+use Rattle.neighbours.specs.Lists.{twoIf, others, bucketTo, bucket, Lists}
+use Rattle.neighbours.specs.Steps.{sizeTo, beginOf}
+
+length-two : (b : Bool) (q r : ℕ) → length (twoIf b q r) ≡ 2 * one-if b
+length-two true q r = refl
+length-two false q r = refl
+
+length-others : (t : Triangle) (p : ℕ) → length (others t p) ≡ 2 * (one-if (eqb (t .one) p) + one-if (eqb (t .two) p) + one-if (eqb (t .three) p))
+unfolding others
+length-others t p =
+    rw (length-append, length-append)
+    (omega (arith, length-two (eqb (t .one) p) (t .two) (t .three), length-two (eqb (t .two) p) (t .three) (t .one), length-two (eqb (t .three) p) (t .one) (t .two)))
+
+-- twice a sum
+sum-twice : (n : ℕ) (f : ℕ → ℕ) → sumTo n (λ i. 2 * f i) ≡ 2 * sumTo n f
+unfolding sumTo
+sum-twice zero f = refl
+sum-twice (suc n) f = omega (arith, sum-twice n f)
+
+-- three corners a triangle
+sized-threes : (ts : List ℕ) (n p : ℕ) → sizeTo ts (3 * n) p ≡ length (bucketTo ts n p)
+unfolding countTo bucketTo sumTo
+sized-threes ts n p =
+    ap (λ k. 2 * k) (sum-blocks 3 n (λ k. one-if (eqb (getD ts k 0) p)))
+    ∙ sym (sum-twice n (λ i. sumTo 3 (λ j. one-if (eqb (getD ts (3 * i + j) 0) p))))
+    ∙ sum-cong n (λ i. 2 * sumTo 3 (λ j. one-if (eqb (getD ts (3 * i + j) 0) p))) (λ i. length (others (triangleAt ts i) p)) (λ i l. sym (length-others (triangleAt ts i) p ∙ three i))
+    ∙ sym (length-join n (λ i. others (triangleAt ts i) p))
+  where
+    three : (i : ℕ) → 2 * (one-if (eqb (getD ts (3 * i) 0) p) + one-if (eqb (getD ts (3 * i + 1) 0) p) + one-if (eqb (getD ts (3 * i + 2) 0) p))
+        ≡ 2 * sumTo 3 (λ j. one-if (eqb (getD ts (3 * i + j) 0) p))
+    three i = rw (add-zero (3 * i)) (omega arith)
+
+module _ (ts : List ℕ) (v at room : ℕ) (ok : Lists ts v at room) where
+  pub bucket-size : (p : ℕ) → sizeTo ts (length ts) p ≡ length (bucket ts p)
+  bucket-size p = ap (λ n. sizeTo ts n p) (ok .threes) ∙ sized-threes ts (triangleCount ts) p
+
+  -- each corner is in one bucket
+  total-to : (n : ℕ) → n ≤ length ts → sumTo v (sizeTo ts n) ≡ 2 * n
+  unfolding countTo sumTo
+  total-to zero l = sum-quiet 0 v (sizeTo ts 0) (omega arith) (λ i a b. refl)
+  total-to (suc n) l =
+      sum-cong v (sizeTo ts (suc n)) (λ p. sizeTo ts n p + cond (eqb (getD ts n 0) p) 2 0) (λ p k. more p (eqb (getD ts n 0) p))
+      ∙ sum-add v (sizeTo ts n) (λ p. cond (eqb (getD ts n 0) p) 2 0)
+      ∙ ap₂ _+_ (total-to n (omega arith)) (sum-picks v (getD ts n 0) 2 (ok .named n (omega arith)))
+      ∙ omega arith
+    where
+      more : (p : ℕ) (b : Bool) → 2 * (countTo n (λ k. eqb (getD ts k 0) p) + one-if b) ≡ sizeTo ts n p + cond b 2 0
+      more p true = omega arith
+      more p false = omega arith
+
+  -- the buckets take all the entries
+  pub entries-taken : beginOf ts v ≡ at
+  unfolding beginOf
+  entries-taken =
+      sum-cong v (λ q. length (bucket ts q)) (sizeTo ts (length ts)) (λ q l. sym (bucket-size q))
+      ∙ total-to (length ts) (omega arith)
+      ∙ sym (ok .entered)
+
+module _ (ts : List ℕ) where
+  pub begin-next : (p : ℕ) → beginOf ts (p + 1) ≡ beginOf ts p + length (bucket ts p)
+  unfolding beginOf
+  begin-next p = sum-next p (λ q. length (bucket ts q))
+
+  -- a bucket ends before those of all points above begin
+  pub begins-rise : (p q : ℕ) → p < q → beginOf ts p + length (bucket ts p) ≤ beginOf ts q
+  unfolding beginOf
+  begins-rise p q l =
+      omega (arith, begin-next p, sum-rises (p + 1) q (λ k. length (bucket ts k)) (omega arith))
