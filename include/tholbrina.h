@@ -45,6 +45,30 @@ uint32_t tholbrina_extract(uint32_t nx, uint32_t ny, uint32_t nz, uint16_t grey,
                            uint32_t *work, size_t work_len,
                            uint32_t *point_count, uint32_t *triangle_count);
 
+/* The length of the smoothing work room for a mesh of so many points and triangles. */
+static inline size_t tholbrina_smooth_work(size_t points, size_t triangles) {
+  return 6 * triangles + 5 * points + 1;
+}
+
+/* Rounds of smoothing. V is marks_len and T a third of triangles_len. In a round every point with mark 0 that has a neighbour (a different
+ * point that shares a triangle side with it) moves towards the mean of its neighbours' old places, by weight / 256 of the way, to the nearest
+ * unit. The places after the last round fill the second point list, smoothed; 0 rounds copy the points.
+ *
+ * Refusals, in this order:
+ *   6   points_len is not 3V, triangles_len is not a multiple of three, V is over 250,000 or T over 500,000
+ *   7   a triangle names a point at or above V, or one point twice
+ *   8   a coordinate is over 16,128
+ *   9   a mark is over 1
+ *   10  rounds is over 100 or weight over 256
+ *   3   smoothed_len is not 3V, or work_len is not 6T + 5V + 1
+ * Each leaves both rooms as they were; a granted call leaves the work room all zero. */
+uint32_t tholbrina_smooth(const uint32_t *points, size_t points_len,
+                          const uint32_t *triangles, size_t triangles_len,
+                          const uint8_t *marks, size_t marks_len,
+                          uint32_t rounds, uint32_t weight,
+                          uint32_t *smoothed, size_t smoothed_len,
+                          uint32_t *work, size_t work_len);
+
 /* One point's coordinates out of the raw list of points (second 0) or the smoothed one (any other value).
  *
  * Refusals, in this order; each leaves *x, *y and *z as they were:

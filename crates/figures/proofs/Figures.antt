@@ -13,9 +13,9 @@ use Rattle.laws.specs.Range.{keepTo, joinTo}
 use Rattle.laws.specs.Order.{isIn}
 use Rattle.laws.specs.Mesh.{sides, sameArrow}
 use Rattle.mesh.specs.Neighbours.{neighbours, shareSide}
-use Rattle.smooth.specs.Round.{moved, movedFrom, round}
+use Rattle.smooth.specs.Round.{moved, movedIf, round}
 use Rattle.figures.specs.Figure.{Holds, figures}
 
 pub figures-hold : All Holds figures
-unfolding triangles flatMap fan loops segments segmentsOf faceSegments cuts wayRound isAbove bit offset nearest moved sumOf round movedFrom neighbours shareSide sides isIn sameArrow keepTo joinTo
+unfolding triangles flatMap fan loops segments segmentsOf faceSegments cuts wayRound isAbove bit offset nearest moved sumOf round movedIf neighbours shareSide sides isIn sameArrow keepTo joinTo
 figures-hold = (refl, (refl, (refl, (refl, (refl, (refl, (refl, (refl, (refl, (refl, (refl, (refl, (refl, (refl, tt))))))))))))))

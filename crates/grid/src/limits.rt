@@ -13,5 +13,7 @@ pub const UNIT: u32 = 256;
 // The last sample's coordinate on the longest side, in units.
 pub const MOST_COORDINATE: u32 = UNIT * (MOST_SIDE - 1);
 
+pub const MOST_ROUNDS: u32 = 100;
+
 // The weight with which a point goes all the way to its neighbours' mean.
 pub const MOST_WEIGHT: u32 = 256;

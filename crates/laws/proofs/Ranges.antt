@@ -173,3 +173,9 @@ sum-picks (suc n) k x l = go (decLt k n) (λ l′. sum-picks n k x l′)
     go (no ge) below =
         let e : k ≡ n = omega arith in
         rw (eq-eqb k n e) (omega (arith, sum-quiet 0 n (λ i. cond (eqb k i) x 0) (omega arith) (λ i a b. other i (λ q. absurd (omega arith)))))
+
+-- terms that have a bound
+pub sum-most : (b n : ℕ) (f : ℕ → ℕ) → ((i : ℕ) → i < n → f i ≤ b) → sumTo n f ≤ b * n
+unfolding sumTo
+sum-most b zero f h = omega arith
+sum-most b (suc n) f h = omega (arith, sum-most b n f (λ i l. h i (omega arith)), h n (omega arith), mul-suc b n)

@@ -1,10 +1,9 @@
--- Tests that some number of a range passes, and that something is in a list.
+-- Tests that some number of a range passes, and that something is in a list; sums over what passes and over the places of a list.
 use mathlib.Core.Path.{_≡_, refl, ap, ap₂, sym, _∙_}
 use mathlib.Core.List.{List, [], _∷_, _++_}
-use mathlib.Core.Bool.{Bool, true, false, cond, _||_, or-false, or-comm, or-assoc}
-use Prim.Native.Nat.{ℕ, zero, suc, _+_, _<_}
+use mathlib.Core.Bool.{Bool, true, false, cond, _||_, or-comm, or-assoc}
+use Prim.Native.Nat.{ℕ, zero, suc, _+_}
 use native.Mathlib.Omega.{arith}
-use lib.Dec.{eqb}
 use lib.ListN.{length, getD}
 use Rattle.laws.specs.Range.{sumTo, joinTo, keepTo, someTo}
 use Rattle.laws.specs.Sum.{sumOf}
@@ -63,3 +62,13 @@ sum-keep g (suc n) p = sum-append g (keepTo n p) (cond (p n) (n ∷ []) []) ∙ 
     one : (b : Bool) → sumOf g (cond b (n ∷ []) []) ≡ cond b (g n) 0
     one true = omega arith
     one false = refl
+
+-- a sum over a list by its places
+pub sum-places : {A : Type 0} (f : A → ℕ) (d : A) (xs : List A) → sumTo (length xs) (λ k. f (getD xs k d)) ≡ sumOf f xs
+unfolding sumTo sumOf
+sum-places f d [] = refl
+sum-places f d (x ∷ xs) = sum-first (length xs) (λ k. f (getD (x ∷ xs) k d)) ∙ ap (λ n. f x + n) (sum-places f d xs)
+  where
+    sum-first : (n : ℕ) (g : ℕ → ℕ) → sumTo (suc n) g ≡ g 0 + sumTo n (λ k. g (suc k))
+    sum-first zero g = omega arith
+    sum-first (suc n) g = omega (arith, sum-first n g)

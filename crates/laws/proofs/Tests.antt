@@ -76,3 +76,9 @@ all-fails (suc n) k p l f = go (decLt k n) (λ l′. all-fails n k p l′ f)
 
 pub all-done : (n k : ℕ) (p : ℕ → Bool) → k ≡ n → allTo k p ≡ true → allTo n p ≡ true
 all-done n k p q h = rw (sym q) h
+
+-- every number of the range passes
+pub all-holds : (n : ℕ) (p : ℕ → Bool) → ((k : ℕ) → k < n → p k ≡ true) → allTo n p ≡ true
+unfolding allTo
+all-holds zero p h = refl
+all-holds (suc n) p h = rw (h n (omega arith)) (all-holds n p (λ k l. h k (omega arith)))

@@ -1,8 +1,8 @@
 -- The bits of words: of two words' exclusive or and or, below a word's lowest set bit, and of a word shifted on.
 use mathlib.Core.Path.{_≡_, refl, ap, sym, _∙_}
 use mathlib.Core.Bool.{Bool, true, false, _&&_, _||_, xor}
-use Prim.Native.Nat.{ℕ, zero, suc, _+_, _*_, _/_, _%_, _^_, _<_, _≤_, min, max}
-use native.Mathlib.Nat.{mod-lt, pow-suc, pow-zero, div-one, div-div-eq-div-mul, add-zero, add-suc, mul-comm}
+use Prim.Native.Nat.{ℕ, zero, suc, _+_, _*_, _/_, _%_, _^_, _<_, min, max}
+use native.Mathlib.Nat.{mod-lt, pow-suc, pow-zero, div-one, div-div-eq-div-mul, add-zero, add-suc}
 use native.Mathlib.Omega.{arith}
 use lib.Bits.{bitAnd, bitOr, bitXor, differ, and-step, or-step, xor-step}
 use lib.Count.{trailingZeros, under}

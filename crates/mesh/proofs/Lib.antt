@@ -1,2 +1,3 @@
--- The check has one answer.
+-- The check has one answer, and a mesh that it lets pass has these facts.
 pub mod Outcome
+pub mod Passed

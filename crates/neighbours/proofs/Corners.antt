@@ -1,13 +1,13 @@
 -- The buckets, triangle by triangle: each corner puts the other two into its bucket.
-use mathlib.Core.Path.{_≡_, refl, ap, sym, _∙_}
-use mathlib.Core.List.{List, [], _∷_, _++_, append-nil, append-assoc}
-use Prim.Native.Nat.{ℕ, _+_, _*_, _-_, _<_, _≤_}
+use mathlib.Core.Path.{_≡_, ap, _∙_}
+use mathlib.Core.List.{List, _++_, append-assoc}
+use Prim.Native.Nat.{ℕ, _+_, _*_, _<_, _≤_}
 use native.Mathlib.Omega.{arith}
 use lib.Dec.{eqb}
 use lib.ListN.{length, getD, replicate, length-append, length-replicate}
 use borrow.Author.Tests.{ne-eqb}
 use Rattle.laws.specs.Range.{sumTo, joinTo}
-use Rattle.laws.proofs.Ranges.{join-next, length-join, sum-next, sum-rises, sum-cong, count-none}
+use Rattle.laws.proofs.Ranges.{join-next, length-join, sum-rises, sum-cong, count-none}
 use Rattle.laws.proofs.Rooms.{zeros-at}
 use Rattle.grid.specs.Limits.{mostTriangles}
 use Rattle.mesh.specs.Mesh.{triangleCount, triangleAt}

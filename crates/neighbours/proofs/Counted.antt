@@ -1,15 +1,15 @@
 -- The sizes of the buckets: counted corner by corner, and all of them together.
-use mathlib.Core.Path.{_≡_, refl, ap, sym, _∙_}
+use mathlib.Core.Path.{_≡_, refl, ap, _∙_}
 use mathlib.Core.List.{List}
-use mathlib.Core.Bool.{Bool, true, false, cond}
-use Prim.Native.Nat.{ℕ, zero, suc, _+_, _*_, _<_, _≤_}
+use mathlib.Core.Bool.{Bool, true, false}
+use Prim.Native.Nat.{ℕ, _+_, _*_, _<_, _≤_}
 use native.Mathlib.Omega.{arith}
 use lib.Dec.{eqb}
 use lib.ListN.{length, getD, set}
 use lib.Seq.{getD-set-same, getD-set-other}
 use borrow.Author.Tests.{eqb-true, eqb-false}
 use Rattle.laws.specs.Range.{sumTo, countTo, one-if}
-use Rattle.laws.proofs.Ranges.{sum-cong, sum-add, sum-picks, sum-quiet, count-le}
+use Rattle.laws.proofs.Ranges.{count-le}
 use Rattle.laws.proofs.Keep.{count-next}
 use Rattle.neighbours.specs.Steps.{From, sizeTo}
 

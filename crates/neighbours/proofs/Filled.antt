@@ -1,15 +1,15 @@
 -- The buckets, two entries at a time.
 use mathlib.Core.Path.{_≡_, refl, ap, sym, _∙_}
-use mathlib.Core.List.{List, [], _∷_, _++_, append-nil, append-assoc}
+use mathlib.Core.List.{List, [], _∷_, _++_, append-nil}
 use mathlib.Core.Bool.{Bool, true, false}
-use Prim.Native.Nat.{ℕ, zero, suc, _+_, _*_, _-_, _<_, _≤_}
+use Prim.Native.Nat.{ℕ, zero, suc, _+_, _-_, _<_, _≤_}
 use native.Mathlib.Decide.{decLt}
 use native.Mathlib.Omega.{arith}
 use lib.Dec.{eqb}
 use lib.ListN.{length, getD, set, length-set, length-append, List·getD-append}
 use lib.Seq.{getD-set-same, getD-set-other, getD-append-add}
 use borrow.Author.Tests.{eqb-true, eqb-false}
-use Rattle.neighbours.specs.Lists.{twoIf, others, bucketTo, bucket}
+use Rattle.neighbours.specs.Lists.{twoIf, bucket}
 use Rattle.neighbours.specs.Steps.{beginOf, Filled, putTwo, StampsBelow}
 use Rattle.neighbours.proofs.Sized.{begins-rise}
 

@@ -8,7 +8,7 @@ use native.Mathlib.Omega.{arith}
 use lib.Dec.{eqb}
 use lib.ListN.{length, getD, set, length-set, length-append, List·getD-append}
 use lib.Seq.{getD-set-same, getD-set-other, getD-append-add}
-use Rattle.laws.specs.Range.{sumTo, joinTo, someTo}
+use Rattle.laws.specs.Range.{sumTo}
 use Rattle.laws.proofs.Ranges.{sum-next, sum-rises, join-cong, of-join, some-cong}
 use Rattle.laws.specs.Mesh.{Triangle}
 use Rattle.mesh.specs.Mesh.{triangleCount, triangleAt}
@@ -25,7 +25,7 @@ different-cong f g n h =
     (λ k l. rw (h k l, some-cong k (λ j. eqb (f j) (g k)) (λ j. eqb (g j) (g k)) (λ j m. ap (λ x. eqb x (g k)) (h j (omega arith)))))
 
 -- every number of a list is below v
-abbrev Below : ℕ → List ℕ → Type 0
+abbrev pub Below : ℕ → List ℕ → Type 0
 Below v xs = (j : ℕ) → j < length xs → getD xs j 0 < v
 
 below-append : (v : ℕ) (xs ys : List ℕ) → Below v xs → Below v ys → Below v (xs ++ ys)
@@ -80,7 +80,7 @@ module _ (ts : List ℕ) (v at size : ℕ) (ok : Lists ts v at size) where
   starts-le zero = omega arith
   starts-le (suc p) = omega (arith, starts-le p, list-le p)
 
-  start-next : (p : ℕ) → startOf ts (p + 1) ≡ startOf ts p + length (listOf ts p)
+  pub start-next : (p : ℕ) → startOf ts (p + 1) ≡ startOf ts p + length (listOf ts p)
   unfolding startOf
   start-next p = sum-next p (λ q. length (listOf ts q))
 
@@ -217,3 +217,17 @@ module _ (ts : List ℕ) (v at size : ℕ) (ok : Lists ts v at size) where
       start-of p l (no b) =
           let is : p ≡ v = omega arith in
           rw is (getD-set-same work (at + v) to 0 (omega (arith, ok .room, h .same)) ∙ h .to-is)
+
+  -- every point in a list is below v
+  pub list-below : (p : ℕ) → Below v (listOf ts p)
+  unfolding listOf differentTo
+  list-below p =
+      of-join (Below v) (λ j l. absurd (omega arith)) (below-append v) (length (bucket ts p))
+      (λ k. cond (metTo entry k (entry k)) [] (entry k ∷ [])) (λ k l. one (metTo entry k (entry k)) (entry k) (bucket-below p k l))
+    where
+      entry : ℕ → ℕ
+      entry k = getD (bucket ts p) k 0
+      one : (b : Bool) (x : ℕ) → x < v → Below v (cond b [] (x ∷ []))
+      one true x h j l = absurd (omega arith)
+      one false x h zero l = h
+      one false x h (suc j) l = absurd (omega arith)

@@ -1,13 +1,13 @@
 -- How long the buckets are, and that together they take all the entries.
 use mathlib.Core.Path.{_≡_, refl, ap, ap₂, sym, _∙_}
-use mathlib.Core.List.{List, [], _∷_, _++_}
+use mathlib.Core.List.{List}
 use mathlib.Core.Bool.{Bool, true, false, cond}
 use Prim.Native.Nat.{ℕ, zero, suc, _+_, _*_, _<_, _≤_}
 use native.Mathlib.Nat.{add-zero}
 use native.Mathlib.Omega.{arith}
 use lib.Dec.{eqb}
 use lib.ListN.{length, getD, length-append}
-use Rattle.laws.specs.Range.{sumTo, joinTo, countTo, one-if}
+use Rattle.laws.specs.Range.{sumTo, countTo, one-if}
 use Rattle.laws.specs.Mesh.{Triangle}
 use Rattle.laws.proofs.Ranges.{sum-next, sum-cong, sum-add, sum-picks, sum-blocks, sum-rises, sum-quiet, length-join}
 use Rattle.mesh.specs.Mesh.{triangleCount, triangleAt}

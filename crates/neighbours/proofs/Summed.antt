@@ -2,12 +2,12 @@
 use mathlib.Core.Path.{_≡_, refl, ap, ap₂, sym, _∙_}
 use mathlib.Core.List.{List, [], _∷_, _++_}
 use mathlib.Core.Bool.{Bool, true, false, cond, _&&_, _||_, xor, not}
-use Prim.Native.Nat.{ℕ, zero, suc, _+_, _*_, _<_}
+use Prim.Native.Nat.{ℕ, zero, suc, _+_, _<_}
 use native.Mathlib.Omega.{arith}
 use lib.Dec.{eqb}
 use lib.ListN.{length, getD}
 use borrow.Author.Tests.{eqb-true}
-use Rattle.laws.specs.Range.{sumTo, joinTo, someTo, keepTo}
+use Rattle.laws.specs.Range.{sumTo, joinTo, someTo}
 use Rattle.laws.specs.Sum.{sumOf}
 use Rattle.laws.specs.Order.{isIn}
 use Rattle.laws.specs.Bits.{allRows}
@@ -20,7 +20,6 @@ use Rattle.laws.proofs.Sides.{sides-join}
 use Rattle.mesh.specs.Mesh.{triangleCount, triangleAt, trianglesOf}
 use Rattle.mesh.specs.Neighbours.{shareSide, neighbours}
 use Rattle.neighbours.specs.Lists.{twoIf, others, bucketTo, bucket, metTo, differentTo, listOf, Lists}
-use Rattle.neighbours.proofs.Kept.{met-next, different-met, different-new, met-again}
 use Rattle.neighbours.proofs.Listing.{bucket-below}
 
 -- what the different ones of n numbers below v are worth: each that was met, once

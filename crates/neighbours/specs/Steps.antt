@@ -5,7 +5,7 @@ use Prim.Native.Nat.{ℕ, _+_, _*_, _<_, _≤_}
 use lib.Dec.{eqb}
 use lib.ListN.{length, getD, set}
 use Rattle.laws.specs.Range.{sumTo, countTo}
-use Rattle.neighbours.specs.Lists.{bucketTo, bucket, differentTo, listOf, startOf}
+use Rattle.neighbours.specs.Lists.{bucket, listOf, startOf}
 
 -- f 0, .., f (n - 1) are below a bound
 abbrev pub AllBelow : ℕ → (ℕ → ℕ) → ℕ → Type 0

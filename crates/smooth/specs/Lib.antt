@@ -1,4 +1,6 @@
 -- Smoothing, and one point shown (document 01, "Smoothing").
 pub mod Round
+pub mod Smooth
+pub mod Steps
 pub mod Show
 pub mod Promise

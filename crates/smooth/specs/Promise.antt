@@ -5,7 +5,13 @@ use mathlib.Core.Bool.{Bool, not}
 use Prim.Native.Nat.{ℕ}
 use lib.Dec.{eqb}
 use lib.ListN.{length}
+use Rattle.smooth.specs.Smooth.{smoothed}
 use Rattle.smooth.specs.Show.{showNumber, shownElse, shown}
+
+-- smoothing: the number, and what the second point list and the work room hold after, given what they held
+abbrev pub Smooths : List ℕ → List ℕ → List ℕ → ℕ → ℕ → List ℕ → List ℕ → ℕ → List ℕ → List ℕ → Type 0
+Smooths points triangles marks k w second work number after left =
+    record { number = number; second = after; work = left } ≡ smoothed points triangles marks k w second work
 
 -- one point shown: the part and the number
 abbrev pub Shown : List ℕ → List ℕ → Bool → ℕ → List ℕ → ℕ → Type 0

@@ -15,23 +15,24 @@ use Rattle.mesh.specs.Neighbours.{neighbours}
 unfoldable pub moved : ℕ → ℕ → ℕ → ℕ → ℕ
 moved w d p s = nearest ((mostWeight - w) * d * p + w * s) (mostWeight * d)
 
+-- one coordinate after a round, of a point that has this mark and d neighbours: with mark 0 and d ≥ 1 it moves, else it stays
+unfoldable pub movedIf : ℕ → ℕ → ℕ → ℕ → ℕ → ℕ
+movedIf mark w d p s = cond (eqb mark 0 && leb 1 d) (moved w d p s) p
+
 -- coordinate a of point p
 abbrev pub coordinateOf : List ℕ → ℕ → ℕ → ℕ
 coordinateOf points p a = getD points (3 * p + a) 0
 
-module _ (ts : List Triangle) (marks : List ℕ) (w : ℕ) where
-  -- coordinate a of point p after a round, given its neighbours: a point with mark 0 and at least one neighbour moves, the others stay
-  unfoldable pub movedFrom : List ℕ → ℕ → ℕ → List ℕ → ℕ
-  movedFrom old p a ns =
-      let here = coordinateOf old p a in
-      cond (eqb (getD marks p 0) 0 && leb 1 (length ns)) (moved w (length ns) here (sumOf (λ q. coordinateOf old q a) ns)) here
+-- coordinate a of point p after a round, given its mark and its neighbours ns; all points of a round read the old places
+abbrev pub movedFrom : ℕ → ℕ → List ℕ → ℕ → List ℕ → ℕ → ℕ
+movedFrom mark w old p ns a = movedIf mark w (length ns) (coordinateOf old p a) (sumOf (λ q. coordinateOf old q a) ns)
 
-  -- all points of a round read the old places
+module _ (ts : List Triangle) (marks : List ℕ) (w : ℕ) where
   unfoldable pub round : List ℕ → List ℕ
   round old =
       joinTo
       (length marks)
-      (λ p. let ns = neighbours (length marks) ts p in movedFrom old p 0 ns ∷ movedFrom old p 1 ns ∷ movedFrom old p 2 ns ∷ [])
+      (λ p. let new = movedFrom (getD marks p 0) w old p (neighbours (length marks) ts p) in new 0 ∷ new 1 ∷ new 2 ∷ [])
 
   -- k rounds, each from the places that the one before it left
   unfoldable pub rounds : ℕ → List ℕ → List ℕ

@@ -12,7 +12,8 @@ use Rattle.grid.specs.Mesh.{gridEdge, caseAt, cubeTriangles, edgeMesh}
 use Rattle.grid.specs.Work.{size}
 use Rattle.masks.specs.Masks.{maskAbove}
 use Rattle.triangles.specs.Row.{masksAt, rowCase, rowCount, layerCount}
-use Rattle.triangles.proofs.General.{sum-most, box-sum-cong, length-box}
+use Rattle.laws.proofs.Ranges.{sum-most}
+use Rattle.triangles.proofs.General.{box-sum-cong, length-box}
 use Rattle.triangles.proofs.Cases.{case-of-masks}
 use Rattle.triangles.proofs.Steps.{layer-count-most}
 

@@ -3,7 +3,6 @@ use mathlib.Core.Path.{_≡_, refl, ap, ap₂, _∙_}
 use mathlib.Core.Bool.{Bool, true, false}
 use mathlib.Core.List.{List, [], _∷_, _++_, map, flatMap}
 use Prim.Native.Nat.{ℕ, zero, suc, _+_, _*_, _-_, _/_, _%_, _<_, _≤_}
-use native.Mathlib.Nat.{mul-suc}
 use native.Mathlib.Numerals.{add-one}
 use native.Mathlib.Omega.{arith}
 use borrow.Author.Tests.{eqb-true, eqb-false}
@@ -34,11 +33,6 @@ two-bits n x =
     (omega (arith, lowest (halved n x), lowest (halved n x / 2)))
 
 -- Ranges.
-
-pub sum-most : (b n : ℕ) (f : ℕ → ℕ) → ((i : ℕ) → i < n → f i ≤ b) → sumTo n f ≤ b * n
-unfolding sumTo
-sum-most b zero f h = omega arith
-sum-most b (suc n) f h = omega (arith, sum-most b n f (λ i l. h i (omega arith)), h n (omega arith), mul-suc b n)
 
 -- what stands up to a number below n is no longer than the whole
 pub join-room : {A : Type 0} (i n : ℕ) (f : ℕ → List A) → i < n → length (joinTo i f) + length (f i) ≤ length (joinTo n f)

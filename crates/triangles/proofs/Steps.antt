@@ -18,7 +18,7 @@ use Rattle.triangles.specs.declared.Layer.{Layer}
 use Rattle.triangles.specs.Row.{masksAt, masksAfter, masksPast, masksFrom, firstCase, rowCase, rowCount, layerCount}
 use Rattle.masks.specs.Masks.{AllSet}
 use Rattle.triangles.specs.Walk.{LayerFits}
-use Rattle.triangles.proofs.General.{sum-most}
+use Rattle.laws.proofs.Ranges.{sum-most}
 use Rattle.triangles.proofs.Cases.{row-case-small, count-most}
 
 -- each layer of cubes has its two layers of samples among the masks

@@ -1,7 +1,7 @@
 // The C functions that a viewer links. Each is a thin call of the one below it.
 ghost use Rattle.cube.specs.Promise.{Counted, EdgeRead};
 ghost use Rattle.extract.specs.Promise.{rooms, left, Extracts};
-ghost use Rattle.smooth.specs.Promise.{Shows};
+ghost use Rattle.smooth.specs.Promise.{Smooths, Shows};
 ghost use mathlib.Core.List.{[], _∷_};
 
 // How many triangles a case has: 0 to 5.
@@ -58,6 +58,22 @@ pub extern "C" fn tholbrina_extract(
     *point_count = done.points;
     *triangle_count = done.triangles;
     done.number
+}
+
+// Rounds of smoothing into the second point list. Answers 0 if granted, else the refusal's number.
+#[no_mangle]
+pub extern "C" fn tholbrina_smooth(
+    points: &[u32],
+    triangles: &[u32],
+    marks: &[u8],
+    rounds: u32,
+    weight: u32,
+    smoothed: &mut [u32],
+    work: &mut [u32],
+) -> u32
+    ensures { λ r. ⌜ Smooths (now (points .entry)) (now (triangles .entry)) (now (marks .entry)) rounds weight (now (smoothed .entry)) (now (work .entry)) r (now (smoothed .exit)) (now (work .exit)) ⌝ }
+{
+    smooth::smooth(points, triangles, marks, rounds, weight, smoothed, work)
 }
 
 // One point's coordinates out of the raw list, or out of the smoothed one if `second` is not 0. Answers 0 if granted, else the

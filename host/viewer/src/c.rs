@@ -25,6 +25,20 @@ mod declared {
             point_count: *mut u32,
             triangle_count: *mut u32,
         ) -> u32;
+        pub fn tholbrina_smooth(
+            points: *const u32,
+            points_len: usize,
+            triangles: *const u32,
+            triangles_len: usize,
+            marks: *const u8,
+            marks_len: usize,
+            rounds: u32,
+            weight: u32,
+            smoothed: *mut u32,
+            smoothed_len: usize,
+            work: *mut u32,
+            work_len: usize,
+        ) -> u32;
         pub fn tholbrina_show(
             raw: *const u32,
             raw_len: usize,
@@ -83,6 +97,34 @@ pub fn extract(
             work.len(),
             point_count,
             triangle_count,
+        )
+    }
+}
+
+pub fn smooth(
+    points: &[u32],
+    triangles: &[u32],
+    marks: &[u8],
+    rounds: u32,
+    weight: u32,
+    smoothed: &mut [u32],
+    work: &mut [u32],
+) -> u32 {
+    // SAFETY: each slice is lent for the call with its own length, the two mutable ones are different, and the function has no requirement.
+    unsafe {
+        declared::tholbrina_smooth(
+            points.as_ptr(),
+            points.len(),
+            triangles.as_ptr(),
+            triangles.len(),
+            marks.as_ptr(),
+            marks.len(),
+            rounds,
+            weight,
+            smoothed.as_mut_ptr(),
+            smoothed.len(),
+            work.as_mut_ptr(),
+            work.len(),
         )
     }
 }

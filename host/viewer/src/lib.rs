@@ -53,6 +53,34 @@ pub fn extract(sides: [u32; 3], grey: u16, samples: &[u16], rooms: Rooms<'_>) ->
     }
 }
 
+/// A mesh as a caller hands it in: three coordinates a point, three point numbers a triangle, and a mark a point.
+#[derive(Clone, Copy)]
+pub struct Mesh<'a> {
+    pub points: &'a [u32],
+    pub triangles: &'a [u32],
+    pub marks: &'a [u8],
+}
+
+/// Rounds of smoothing of a weight into the second point list of 3V numbers, with a work room of exactly 6T + 5V + 1. Answers 0 if granted,
+/// else the refusal's number.
+pub fn smooth(
+    mesh: Mesh<'_>,
+    rounds: u32,
+    weight: u32,
+    smoothed: &mut [u32],
+    work: &mut [u32],
+) -> u32 {
+    c::smooth(
+        mesh.points,
+        mesh.triangles,
+        mesh.marks,
+        rounds,
+        weight,
+        smoothed,
+        work,
+    )
+}
+
 /// One point's coordinates out of the raw list, or out of the smoothed one if `second` is not 0. Answers 0 if granted, else the refusal's
 /// number, and the place stays.
 pub fn show(raw: &[u32], smoothed: &[u32], second: u32, point: u32, place: &mut [u32; 3]) -> u32 {

@@ -1,10 +1,9 @@
 -- `neighbours::begin` meets its contract: begins below p, sizes from p on. Assumes nothing.
-use mathlib.Core.Path.{_≡_, ap, sym, _∙_}
-use Prim.Native.Nat.{ℕ, _+_, _-_, _≤_}
+use mathlib.Core.Path.{ap, sym, _∙_}
+use Prim.Native.Nat.{ℕ, _+_, _-_}
 use native.Mathlib.Nat.{add-assoc}
 use native.Mathlib.Omega.{arith}
-use lib.ListN.{length, getD}
-use Rattle.laws.specs.Range.{sumTo}
+use lib.ListN.{getD}
 use Rattle.laws.proofs.Ranges.{sum-next, sum-rises}
 use Rattle.neighbours.proofs.Begun.{BegunTo, begun-first, begun-next}
 use Rattle.neighbours.proofs.begin.Statement.{statement}

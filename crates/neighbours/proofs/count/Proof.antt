@@ -3,7 +3,7 @@ use mathlib.Core.Path.{_≡_, refl, ap, sym, _∙_}
 use mathlib.Core.List.{List}
 use Prim.Native.Nat.{ℕ, _+_, _-_, _<_, _≤_}
 use native.Mathlib.Omega.{arith}
-use lib.ListN.{length, getD, set, length-set}
+use lib.ListN.{length, getD, length-set}
 use Rattle.neighbours.specs.Steps.{From, sizeTo}
 use Rattle.neighbours.proofs.Counted.{sized-first, sized-most, counted-next}
 use Rattle.neighbours.proofs.count.Statement.{statement}

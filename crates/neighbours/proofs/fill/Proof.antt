@@ -1,5 +1,5 @@
 -- `neighbours::fill` meets its contract: the buckets as far as the triangles that were passed. Assumes nothing.
-use mathlib.Core.Path.{_≡_, refl, ap, sym, _∙_}
+use mathlib.Core.Path.{_≡_, refl, _∙_}
 use Prim.Native.Nat.{_+_, _*_, _-_, _<_, _≤_}
 use mir.Syntax.{w64}
 use mir.Val.{Fits}

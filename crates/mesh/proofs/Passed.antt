@@ -1,0 +1,73 @@
+-- What a mesh is that no check refuses: the facts on which every call on a mesh builds.
+use mathlib.Core.Path.{_≡_, refl}
+use mathlib.Core.List.{List}
+use mathlib.Core.Bool.{Bool, true, false, cond, not}
+use Prim.Native.Nat.{ℕ, zero, suc, _+_, _*_, _/_, _%_, _<_, _≤_}
+use native.Mathlib.Decide.{decLt}
+use native.Mathlib.Omega.{arith}
+use lib.Dec.{eqb, leb, ltb}
+use lib.ListN.{length, getD, List·getD-eq-default}
+use borrow.Author.Tests.{eqb-true, leb-true, ltb-true}
+use Rattle.laws.specs.Mesh.{Triangle}
+use Rattle.laws.proofs.Tests.{both, all-at}
+use Rattle.grid.specs.Limits.{mostPoints, mostTriangles, mostCoordinate}
+use Rattle.mesh.specs.Mesh.{triangleCount, triangleAt}
+use Rattle.mesh.specs.Check.{lengthsFit, namesThree, trianglesFit, allWithin, meshNumber}
+
+-- each of the four tests passed
+tests : (a b c d : Bool) → _≡_ {A = ℕ} (cond (not a) 6 (cond (not b) 7 (cond (not c) 8 (cond (not d) 9 0)))) 0
+    → (a ≡ true) × (b ≡ true) × (c ≡ true) × (d ≡ true)
+tests true true true true h = (refl, refl, refl, refl)
+tests true true true false h = absurd (omega arith)
+tests true true false d h = absurd (omega arith)
+tests true false c d h = absurd (omega arith)
+tests false b c d h = absurd (omega arith)
+
+pub record Passed (points triangles marks : List ℕ) : Type 0 where
+  pub threes : length points ≡ 3 * length marks
+  pub whole : length triangles ≡ 3 * triangleCount triangles
+  pub few : length marks ≤ mostPoints
+  pub triangles-few : triangleCount triangles ≤ mostTriangles
+  pub named : (k : ℕ) → k < length triangles → getD triangles k 0 < length marks
+  pub small : (i : ℕ) → getD points i 0 ≤ mostCoordinate
+
+-- the corners of a triangle that names three points
+three-below : (v : ℕ) (t : Triangle) → namesThree v t ≡ true → (t .one < v) × (t .two < v) × (t .three < v)
+unfolding namesThree
+three-below v t h =
+    let a = both (ltb (t .one) v) _ h in
+    let b = both (ltb (t .two) v) _ (a .1) in
+    let c = both (ltb (t .three) v) _ (b .1) in
+    (ltb-true (t .one) v (a .0), ltb-true (t .two) v (b .0), ltb-true (t .three) v (c .0))
+
+pub passed : (points triangles marks : List ℕ) → meshNumber points triangles marks ≡ 0 → Passed points triangles marks
+unfolding meshNumber lengthsFit trianglesFit allWithin
+passed points triangles marks h =
+    let t = tests (lengthsFit (length points) (length triangles) (length marks)) (trianglesFit triangles (length marks)) (allWithin mostCoordinate points) (allWithin 1 marks) h in
+    let a = both (eqb (length points) (3 * length marks)) _ (t .0) in
+    let b = both (eqb (length triangles % 3) 0) _ (a .1) in
+    let c = both (leb (length marks) mostPoints) (leb (triangleCount triangles) mostTriangles) (b .1) in
+    let threes : length triangles ≡ 3 * triangleCount triangles = omega (arith, eqb-true (length triangles % 3) 0 (b .0)) in
+    record {
+      threes = eqb-true (length points) (3 * length marks) (a .0);
+      whole = threes;
+      few = leb-true (length marks) mostPoints (c .0);
+      triangles-few = leb-true (triangleCount triangles) mostTriangles (c .1);
+      named = λ k l. corner (t .1) (k / 3) (k % 3) k (omega arith) (omega arith) (omega (arith, threes));
+      small = λ i. coordinate (t .2) i (decLt i (length points));
+    }
+  where
+    corner : trianglesFit triangles (length marks) ≡ true → (i j k : ℕ) → k ≡ 3 * i + j → j < 3 → i < triangleCount triangles → getD triangles k 0 < length marks
+    corner fits i j k is l m =
+        let c = three-below (length marks) (triangleAt triangles i) (all-at (triangleCount triangles) (λ i. namesThree (length marks) (triangleAt triangles i)) fits i m) in
+        rw is (go j l c)
+      where
+        go : (j : ℕ) → j < 3 → (getD triangles (3 * i) 0 < length marks) × (getD triangles (3 * i + 1) 0 < length marks) × (getD triangles (3 * i + 2) 0 < length marks)
+            → getD triangles (3 * i + j) 0 < length marks
+        go zero l c = let e : 3 * i + 0 ≡ 3 * i = omega arith in rw e (c .0)
+        go (suc zero) l c = c .1
+        go (suc (suc zero)) l c = c .2
+        go (suc (suc (suc j))) l c = absurd (omega arith)
+    coordinate : allWithin mostCoordinate points ≡ true → (i : ℕ) → Dec (i < length points) → getD points i 0 ≤ mostCoordinate
+    coordinate fits i (yes l) = leb-true (getD points i 0) mostCoordinate (all-at (length points) (λ i. leb (getD points i 0) mostCoordinate) fits i l)
+    coordinate fits i (no l) = let e : getD points i 0 ≡ 0 = List·getD-eq-default points 0 (omega arith) in omega arith

@@ -1,0 +1,70 @@
+-- What a mesh that passed, rooms that fit and a weight within its bound give to the rounds.
+use mathlib.Core.Path.{_≡_, refl, ap, sym, _∙_}
+use mathlib.Core.List.{List}
+use Prim.Native.Nat.{ℕ, _+_, _*_, _<_, _≤_}
+use native.Mathlib.Numerals.{add-one}
+use native.Mathlib.Omega.{arith}
+use lib.ListN.{length, getD}
+use lib.Seq.{ext-getD}
+use Rattle.laws.specs.Mesh.{Triangle}
+use Rattle.mesh.specs.Mesh.{triangleCount, trianglesOf}
+use Rattle.mesh.proofs.Passed.{Passed}
+use Rattle.grid.specs.Limits.{mostWeight}
+use Rattle.neighbours.specs.Lists.{Listed, Lists}
+use Rattle.smooth.specs.Round.{round, rounds}
+use Rattle.smooth.specs.Steps.{Small, SameTo, CopiedFrom, Held, heldRound}
+use Rattle.smooth.proofs.Within.{rounds-small, length-rounds}
+use Rattle.smooth.proofs.Linked.{lists-held, round-held, listed-kept}
+
+rounds-next : (ts : List Triangle) (marks : List ℕ) (w k : ℕ) (points : List ℕ) → rounds ts marks w (k + 1) points ≡ round ts marks w (rounds ts marks w k points)
+unfolding rounds
+rounds-next ts marks w k points = rw add-one
+
+module _ (points triangles marks : List ℕ) (ok : Passed points triangles marks) where
+  abbrev v : ℕ
+  v = length marks
+
+  abbrev at : ℕ
+  at = 2 * length triangles
+
+  abbrev second : ℕ
+  second = at + 2 * v + 1
+
+  pub lists-ready : (size : ℕ) → size ≡ 6 * triangleCount triangles + 5 * v + 1 → Lists triangles v at size
+  lists-ready size is =
+      record {
+        threes = ok .whole;
+        named = ok .named;
+        entered = refl;
+        room = omega (arith, ok .whole);
+        points = ok .few;
+        triangles = ok .triangles-few;
+      }
+
+  -- no round: the points copied
+  pub copied-all : (w : ℕ) (written : List ℕ) → length written ≡ 3 * v → CopiedFrom 0 points written → written ≡ rounds (trianglesOf triangles) marks w 0 points
+  unfolding rounds
+  copied-all w written long copied =
+      ext-getD 0 written points (long ∙ sym (ok .threes)) (λ i l. copied i l ∙ ap (λ k. getD points k 0) (omega arith))
+
+  -- a round more
+  module _ (w k : ℕ) (lw : w ≤ mostWeight) (smoothed work : List ℕ) (is : smoothed ≡ rounds (trianglesOf triangles) marks w k points)
+      (long : length work ≡ 6 * triangleCount triangles + 5 * v + 1) (listed : Listed triangles v at work) where
+    lists : Lists triangles v at (length work)
+    lists = lists-ready (length work) long
+
+    pub round-ready : (w ≤ mostWeight) × (Held at work v × ((length smoothed ≡ 3 * v) × (Small smoothed × ((at + v < second) × (second + 3 * v ≤ length work)))))
+    round-ready =
+        (lw, (lists-held triangles v at (length work) lists work listed,
+          (rw is (length-rounds (trianglesOf triangles) marks w lw k points (ok .threes)),
+            (rw is (rounds-small (trianglesOf triangles) marks w lw k points (ok .small)), (omega arith, omega (arith, ok .whole))))))
+
+    pub round-more : (new : List ℕ) → new ≡ heldRound at work marks w smoothed → new ≡ rounds (trianglesOf triangles) marks w (k + 1) points
+    round-more new made =
+        made
+        ∙ round-held triangles v at (length work) lists work listed marks refl w smoothed
+        ∙ ap (round (trianglesOf triangles) marks w) is
+        ∙ sym (rounds-next (trianglesOf triangles) marks w k points)
+
+    pub lists-stay : (after : List ℕ) → SameTo second work after → Listed triangles v at after
+    lists-stay after same = listed-kept triangles v at (length work) lists work listed after second (omega arith) same
