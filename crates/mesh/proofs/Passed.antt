@@ -68,6 +68,15 @@ passed points triangles marks h =
         go (suc zero) l c = c .1
         go (suc (suc zero)) l c = c .2
         go (suc (suc (suc j))) l c = absurd (omega arith)
+
     coordinate : allWithin mostCoordinate points ≡ true → (i : ℕ) → Dec (i < length points) → getD points i 0 ≤ mostCoordinate
     coordinate fits i (yes l) = leb-true (getD points i 0) mostCoordinate (all-at (length points) (λ i. leb (getD points i 0) mostCoordinate) fits i l)
     coordinate fits i (no l) = let e : getD points i 0 ≡ 0 = List·getD-eq-default points 0 (omega arith) in omega arith
+
+-- other points for the same triangles and marks pass if there are as many, none too far
+pub passes-again : (points triangles marks new : List ℕ) → meshNumber points triangles marks ≡ 0 → length new ≡ length points
+    → allWithin mostCoordinate new ≡ true → meshNumber new triangles marks ≡ 0
+unfolding meshNumber
+passes-again points triangles marks new h long small =
+    let t = tests (lengthsFit (length points) (length triangles) (length marks)) (trianglesFit triangles (length marks)) (allWithin mostCoordinate points) (allWithin 1 marks) h in
+    rw (long, t .0, t .1, small, t .3)

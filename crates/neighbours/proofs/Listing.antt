@@ -227,6 +227,7 @@ module _ (ts : List ℕ) (v at size : ℕ) (ok : Lists ts v at size) where
     where
       entry : ℕ → ℕ
       entry k = getD (bucket ts p) k 0
+
       one : (b : Bool) (x : ℕ) → x < v → Below v (cond b [] (x ∷ []))
       one true x h j l = absurd (omega arith)
       one false x h zero l = h

@@ -1,4 +1,6 @@
--- What showing a point answers, refusal by refusal, and that it has one outcome; smoothing keeps coordinates small.
+-- Smoothing keeps coordinates within the limit (Weighed, Within); how the code sums up, copies, places a point and goes through a round
+-- (Summing, Copied, Placed, Rounding), and that this is a round by definition (Linked, Ready); the refusals (Refused); the trap of smoothing
+-- in place; what showing a point answers (Shown); and that each call has one outcome (Outcome).
 pub mod Weighed
 pub mod Within
 pub mod Summing
@@ -8,5 +10,6 @@ pub mod Rounding
 pub mod Linked
 pub mod Ready
 pub mod Refused
+pub mod Trap
 pub mod Shown
 pub mod Outcome

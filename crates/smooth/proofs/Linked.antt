@@ -52,7 +52,7 @@ module _ (ts : List ℕ) (v at size : ℕ) (ok : Lists ts v at size) (work : Lis
   sum-held old p a l =
       ap (λ n. sumTo n (λ k. coordinateOf old (getD work (heldStart at work p + k) 0) a)) (count p l)
       ∙ sum-cong (length (listOf ts p)) (λ k. coordinateOf old (getD work (heldStart at work p + k) 0) a) (λ k. coordinateOf old (getD (listOf ts p) k 0) a)
-        (λ k m. ap (λ q. coordinateOf old q a) (entry p k l m))
+      (λ k m. ap (λ q. coordinateOf old q a) (entry p k l m))
       ∙ sum-places (λ q. coordinateOf old q a) 0 (listOf ts p)
       ∙ list-sum ts v at size ok (λ q. coordinateOf old q a) p
 

@@ -54,10 +54,16 @@ module _ (points triangles marks : List ℕ) (ok : Passed points triangles marks
     lists = lists-ready (length work) long
 
     pub round-ready : (w ≤ mostWeight) × (Held at work v × ((length smoothed ≡ 3 * v) × (Small smoothed × ((at + v < second) × (second + 3 * v ≤ length work)))))
-    round-ready =
-        (lw, (lists-held triangles v at (length work) lists work listed,
-          (rw is (length-rounds (trianglesOf triangles) marks w lw k points (ok .threes)),
-            (rw is (rounds-small (trianglesOf triangles) marks w lw k points (ok .small)), (omega arith, omega (arith, ok .whole))))))
+    round-ready = (
+      lw,
+      (
+        lists-held triangles v at (length work) lists work listed,
+        (
+          rw is (length-rounds (trianglesOf triangles) marks w lw k points (ok .threes)),
+          (rw is (rounds-small (trianglesOf triangles) marks w lw k points (ok .small)), (omega arith, omega (arith, ok .whole))),
+        ),
+      ),
+    )
 
     pub round-more : (new : List ℕ) → new ≡ heldRound at work marks w smoothed → new ≡ rounds (trianglesOf triangles) marks w (k + 1) points
     round-more new made =

@@ -1,5 +1,5 @@
 -- Smoothing keeps every coordinate within the limit, so what it leaves passes check 8 again.
-use mathlib.Core.Path.{_≡_, refl}
+use mathlib.Core.Path.{_≡_, refl, sym, _∙_}
 use mathlib.Core.List.{List, [], _∷_, _++_}
 use mathlib.Core.Bool.{Bool, true, false, cond, _&&_}
 use Prim.Native.Nat.{ℕ, zero, suc, _+_, _*_, _-_, _<_, _≤_}
@@ -17,7 +17,9 @@ use Rattle.laws.proofs.Ranges.{of-join}
 use Rattle.laws.proofs.Rows.{length-rows}
 use Rattle.grid.specs.Limits.{mostWeight, mostCoordinate}
 use Rattle.mesh.specs.Neighbours.{neighbours}
-use Rattle.mesh.specs.Check.{allWithin}
+use Rattle.mesh.specs.Mesh.{trianglesOf}
+use Rattle.mesh.specs.Check.{allWithin, meshNumber}
+use Rattle.mesh.proofs.Passed.{passed, passes-again}
 use Rattle.smooth.specs.Round.{moved, movedIf, coordinateOf, movedFrom, round, rounds}
 use Rattle.smooth.specs.Steps.{Small}
 use Rattle.smooth.proofs.Weighed.{moved-small}
@@ -56,6 +58,7 @@ module _ (ts : List Triangle) (marks : List ℕ) (w : ℕ) (lw : w ≤ mostWeigh
           let ns = neighbours (length marks) ts p in
           moved-if-small (getD marks p 0) w (length ns) (coordinateOf old p a) (sumOf (λ q. coordinateOf old q a) ns) lw (small (3 * p + a))
           (sum-small (λ q. coordinateOf old q a) mostCoordinate (λ q. small (3 * q + a)) ns)
+
       three : (p i : ℕ) → getD (let new = movedFrom (getD marks p 0) w old p (neighbours (length marks) ts p) in new 0 ∷ new 1 ∷ new 2 ∷ []) i 0 ≤ mostCoordinate
       three p zero = one p 0
       three p (suc zero) = one p 1
@@ -85,3 +88,12 @@ module _ (ts : List Triangle) (marks : List ℕ) (w : ℕ) (lw : w ≤ mostWeigh
   unfolding rounds
   length-rounds zero points h = h
   length-rounds (suc k) points h = length-round (rounds ts marks w k points)
+
+-- so a smoothed mesh passes every check that the raw one passed
+pub smoothed-passes : (points triangles marks : List ℕ) (w k : ℕ) → w ≤ mostWeight → meshNumber points triangles marks ≡ 0
+    → meshNumber (rounds (trianglesOf triangles) marks w k points) triangles marks ≡ 0
+smoothed-passes points triangles marks w k lw h =
+    let m = passed points triangles marks h in
+    let ts = trianglesOf triangles in
+    passes-again points triangles marks (rounds ts marks w k points) h (length-rounds ts marks w lw k points (m .threes) ∙ sym (m .threes))
+    (rounds-within ts marks w lw k points (m .small))

@@ -2,5 +2,6 @@
 pub mod Round
 pub mod Smooth
 pub mod Steps
+pub mod Trap
 pub mod Show
 pub mod Promise

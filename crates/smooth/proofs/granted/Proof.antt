@@ -113,9 +113,10 @@ returns c =
     let l = c .before .before .before .before .before in
     let s = l .before .before .before .before .before .before .before .before .before .before .before .before .before .before in
     let a = s .args in
-    let end : l .loop .k ≡ a .rounds = at-end (c .before .before .before .before) in
-    (l .loop .inv .1 ∙ ap (λ k. roundsOf (trianglesOf (a .triangles .now)) (a .marks .now) (a .weight) k (a .points .now)) end,
-     c .before .before .clear .ensures ∙ ap (λ n. replicate n 0) (long l ∙ sym (s .pre .1 .1 .1)))
+    let end : l .loop .k ≡ a .rounds = at-end (c .before .before .before .before) in (
+      l .loop .inv .1 ∙ ap (λ k. roundsOf (trianglesOf (a .triangles .now)) (a .marks .now) (a .weight) k (a .points .now)) end,
+      c .before .before .clear .ensures ∙ ap (λ n. replicate n 0) (long l ∙ sym (s .pre .1 .1 .1)),
+    )
 
 pub granted-spec : {M : Type 1} → statement M
 granted-spec =

@@ -41,14 +41,16 @@ pub struct Lengths {
     pub work: usize,
 }
 
+/// Guard values, a different one at each place.
+pub fn guard(start: u32, length: usize) -> Vec<u32> {
+    (0..length as u32)
+        .map(|i| start ^ i.wrapping_mul(0x0101_4943))
+        .collect()
+}
+
 impl Rooms {
     /// Rooms of these lengths full of guard values, a different one at each place.
     pub fn guarded(lengths: Lengths) -> Rooms {
-        let guard = |start: u32, length: usize| {
-            (0..length as u32)
-                .map(|i| start ^ i.wrapping_mul(0x0101_4943))
-                .collect()
-        };
         Rooms {
             points: guard(0xa5a5_0001, lengths.points),
             edges: guard(0x5a5a_0003, lengths.edges),
@@ -118,4 +120,43 @@ pub fn same(
     assert_eq!(proved.triangles, plain.triangles, "triangles, {at}");
     assert_eq!(proved.work, plain.work, "work room, {at}");
     (found, proved)
+}
+
+/// A mesh as a caller hands it in.
+#[derive(Clone, PartialEq, Eq, Debug)]
+pub struct Caller {
+    pub points: Vec<u32>,
+    pub triangles: Vec<u32>,
+    pub marks: Vec<u8>,
+}
+
+impl Caller {
+    pub fn lent(&self) -> viewer::Mesh<'_> {
+        viewer::Mesh {
+            points: &self.points,
+            triangles: &self.triangles,
+            marks: &self.marks,
+        }
+    }
+}
+
+/// The mesh of a grid.
+pub fn mesh_of(sides: [u32; 3], grey: u16, samples: &[u16]) -> Caller {
+    let (found, mut rooms) = same(sides, grey, samples, roomy(sides));
+    assert_eq!(found.number, 0);
+    rooms.points.truncate(3 * found.points as usize);
+    rooms.triangles.truncate(3 * found.triangles as usize);
+    rooms.marks.truncate(found.points as usize);
+    Caller {
+        points: rooms.points,
+        triangles: rooms.triangles,
+        marks: rooms.marks,
+    }
+}
+
+/// The mesh of a made-up grid with samples below a bound.
+pub fn extracted(seed: &mut Seed, sides: [u32; 3], bound: u64) -> Caller {
+    let count = sides.iter().map(|&side| side as usize).product();
+    let samples: Vec<u16> = (0..count).map(|_| seed.below(bound) as u16).collect();
+    mesh_of(sides, (bound / 2) as u16, &samples)
 }

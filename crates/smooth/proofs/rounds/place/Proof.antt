@@ -152,10 +152,10 @@ returns-2 c =
     let z = c .before .before .before .before .moved3 in
     w .ensures
     ∙ ap (sets (a .work .now) (a .to))
-      (moves-point (a .at) (a .work .now) (a .mark) (a .weight) (a .old .now) (a .p) (a .v) (s .pre .1 .0) (s .pre .1 .1 .0) (s .pre .1 .1 .1 .0) (s .pre .1 .1 .1 .1 .0) (sym (c .before .before .before .before .before .before .before .before .before .before .before .before .if1 .left) ∙ c .before .before .before .before .before .before .before .before .before .before .before .before .before .stays .ensures) (x .result) (y .result) (z .result)
-      (x .ensures .0 ∙ ap (moved (a .weight) (heldCount (a .at) (a .work .now) (a .p)) (getD (a .old .now) (3 * a .p) 0)) (u .ensures .0))
-      (y .ensures .0 ∙ ap (moved (a .weight) (heldCount (a .at) (a .work .now) (a .p)) (getD (a .old .now) (3 * a .p + 1) 0)) (u .ensures .1 .0))
-      (z .ensures .0 ∙ ap (moved (a .weight) (heldCount (a .at) (a .work .now) (a .p)) (getD (a .old .now) (3 * a .p + 2) 0)) (u .ensures .1 .1)))
+    (moves-point (a .at) (a .work .now) (a .mark) (a .weight) (a .old .now) (a .p) (a .v) (s .pre .1 .0) (s .pre .1 .1 .0) (s .pre .1 .1 .1 .0) (s .pre .1 .1 .1 .1 .0) (sym (c .before .before .before .before .before .before .before .before .before .before .before .before .if1 .left) ∙ c .before .before .before .before .before .before .before .before .before .before .before .before .before .stays .ensures) (x .result) (y .result) (z .result)
+    (x .ensures .0 ∙ ap (moved (a .weight) (heldCount (a .at) (a .work .now) (a .p)) (getD (a .old .now) (3 * a .p) 0)) (u .ensures .0))
+    (y .ensures .0 ∙ ap (moved (a .weight) (heldCount (a .at) (a .work .now) (a .p)) (getD (a .old .now) (3 * a .p + 1) 0)) (u .ensures .1 .0))
+    (z .ensures .0 ∙ ap (moved (a .weight) (heldCount (a .at) (a .work .now) (a .p)) (getD (a .old .now) (3 * a .p + 2) 0)) (u .ensures .1 .1)))
 
 pub place-spec : {M : Type 1} → statement M
 place-spec =

@@ -79,9 +79,10 @@ returns c =
     let a = l .before .before .before .before .args in
     let q = l .before .before .before .before .pre in
     let k = c .before .before .copy in
-    let end : l .loop .p ≡ length (a .marks .now) = at-end (c .before .before .before .before .before) in
-    (placed-last (a .marks .now) (a .weight) (a .at) (a .second) (a .smoothed .now) (a .work .now) (q .1 .1 .1 .1 .0) (q .1 .1 .1 .1 .1) (q .1 .0) (l .loop .to) (l .loop .work) (k .last .1 .1 .0) (rw end at (l .loop .inv)) (k .kept .1 .1 .0 ∙ q .1 .1 .0) (k .ensures),
-     placed-same (a .marks .now) (a .weight) (a .at) (a .second) (a .smoothed .now) (a .work .now) (q .1 .1 .1 .1 .0) (q .1 .1 .1 .1 .1) (q .1 .0) (l .loop .p) (l .loop .to) (l .loop .work) (l .loop .inv))
+    let end : l .loop .p ≡ length (a .marks .now) = at-end (c .before .before .before .before .before) in (
+      placed-last (a .marks .now) (a .weight) (a .at) (a .second) (a .smoothed .now) (a .work .now) (q .1 .1 .1 .1 .0) (q .1 .1 .1 .1 .1) (q .1 .0) (l .loop .to) (l .loop .work) (k .last .1 .1 .0) (rw end at (l .loop .inv)) (k .kept .1 .1 .0 ∙ q .1 .1 .0) (k .ensures),
+      placed-same (a .marks .now) (a .weight) (a .at) (a .second) (a .smoothed .now) (a .work .now) (q .1 .1 .1 .1 .0) (q .1 .1 .1 .1 .1) (q .1 .0) (l .loop .p) (l .loop .to) (l .loop .work) (l .loop .inv),
+    )
 
 pub round-spec : {M : Type 1} → statement M
 round-spec =
