@@ -3,12 +3,16 @@
 
 mod casting;
 
+use std::collections::BTreeMap;
 use std::process::Command;
 use std::time::Instant;
 
 const SIDES: [u32; 3] = [64, 64, 64];
 const GREY: u16 = 500;
 const RUNS: usize = 101;
+const WEIGHT: u32 = 128;
+
+type Failure = Box<dyn std::error::Error>;
 
 /// The median time of many runs, in milliseconds.
 fn median(runs: usize, mut job: impl FnMut()) -> f64 {
@@ -70,8 +74,8 @@ impl Rooms {
     }
 }
 
-/// The milliseconds that the VTK program prints for a volume: flying edges, then marching cubes.
-fn vtk(program: &str, samples: &[u16]) -> Result<Vec<f64>, Box<dyn std::error::Error>> {
+/// The milliseconds that the VTK program prints for a volume, by the filter's name.
+fn vtk(program: &str, samples: &[u16]) -> Result<BTreeMap<String, f64>, Failure> {
     let file = std::env::temp_dir().join(format!("casting-{}.raw", std::process::id()));
     std::fs::write(
         &file,
@@ -91,42 +95,107 @@ fn vtk(program: &str, samples: &[u16]) -> Result<Vec<f64>, Box<dyn std::error::E
         return Err(String::from_utf8_lossy(&said.stderr).into());
     }
     let text = String::from_utf8(said.stdout)?;
-    Ok(text
-        .split_whitespace()
-        .map(str::parse)
-        .collect::<Result<_, _>>()?)
+    text.lines()
+        .map(|line| {
+            let (name, time) = line.split_once(' ').ok_or("a line without a time")?;
+            Ok((name.to_string(), time.parse()?))
+        })
+        .collect()
 }
 
-fn main() -> Result<(), Box<dyn std::error::Error>> {
+/// One sentence for a call, and one for each of VTK's filters that it stands beside.
+fn say(what: &str, proved: f64, plain: f64, each: (&str, usize), beside: &[(&str, Option<f64>)]) {
+    println!(
+        "{what}: {proved:.3} ms, {:.2} ns a {}, {:.2} of the reference's time.",
+        proved * 1e6 / each.1 as f64,
+        each.0,
+        proved / plain
+    );
+    for (name, time) in beside {
+        if let Some(time) = time {
+            println!(
+                "  {name}: {time:.3} ms; this library takes {:.2} of that.",
+                proved / time
+            );
+        }
+    }
+}
+
+fn extraction(rooms: &mut Rooms, samples: &[u16], times: &BTreeMap<String, f64>) {
+    let proved = median(RUNS, || {
+        rooms.proved(samples);
+    });
+    let plain = median(RUNS, || {
+        rooms.plain(samples);
+    });
+    let beside =
+        ["vtkFlyingEdges3D", "vtkMarchingCubes"].map(|name| (name, times.get(name).copied()));
+    say(
+        "Extraction",
+        proved,
+        plain,
+        ("sample", samples.len()),
+        &beside,
+    );
+}
+
+fn smoothing(mesh: viewer::Mesh<'_>, rounds: u32, times: &BTreeMap<String, f64>) {
+    let runs = RUNS.div_ceil(10);
+    let count = mesh.triangles.len() / 3;
+    let mut smoothed = vec![1; mesh.points.len()];
+    let mut work = vec![1; 6 * count + 5 * mesh.marks.len() + 1];
+    let proved = median(runs, || {
+        assert_eq!(
+            viewer::smooth(mesh, rounds, WEIGHT, &mut smoothed, &mut work),
+            0
+        );
+    });
+    let plain = median(runs, || {
+        reference::smooth::smooth(
+            mesh.points,
+            mesh.triangles,
+            mesh.marks,
+            rounds,
+            WEIGHT,
+            &mut smoothed,
+            &mut work,
+        );
+    });
+    let time = times
+        .get(&format!("vtkSmoothPolyDataFilter,{rounds}"))
+        .copied();
+    say(
+        &format!("Smoothing, {rounds} rounds"),
+        proved,
+        plain,
+        ("triangle", count),
+        &[("vtkSmoothPolyDataFilter", time)],
+    );
+}
+
+fn main() -> Result<(), Failure> {
     let program = std::env::args().nth(1);
     let mut rooms = Rooms::new();
-    println!("Extraction at 64 x 64 x 64, grey value {GREY}, medians of {RUNS} runs.");
+    println!("64 x 64 x 64 samples, grey value {GREY}; medians, in one run on one thread.");
     for voids in [9, 200, 2_000] {
         let samples = casting::casting(voids);
         let found = rooms.proved(&samples);
-        let proved = median(RUNS, || {
-            rooms.proved(&samples);
-        });
-        let plain = median(RUNS, || {
-            rooms.plain(&samples);
-        });
+        let times = match &program {
+            Some(program) => vtk(program, &samples)?,
+            None => BTreeMap::new(),
+        };
         println!(
-            "{voids} voids, {} points, {} triangles: {proved:.3} ms, {:.2} ns a sample, {:.2} of the reference's time.",
-            found.points,
-            found.triangles,
-            proved * 1e6 / samples.len() as f64,
-            proved / plain
+            "{voids} voids, {} points, {} triangles.",
+            found.points, found.triangles
         );
-        if let Some(program) = &program {
-            for (name, time) in ["vtkFlyingEdges3D", "vtkMarchingCubes"]
-                .iter()
-                .zip(vtk(program, &samples)?)
-            {
-                println!(
-                    "  {name}: {time:.3} ms; this library takes {:.2} of that.",
-                    proved / time
-                );
-            }
+        extraction(&mut rooms, &samples, &times);
+        let mesh = viewer::Mesh {
+            points: &rooms.points[..3 * found.points as usize],
+            triangles: &rooms.triangles[..3 * found.triangles as usize],
+            marks: &rooms.marks[..found.points as usize],
+        };
+        for rounds in [10, 100] {
+            smoothing(mesh, rounds, &times);
         }
     }
     Ok(())

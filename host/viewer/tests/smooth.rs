@@ -9,13 +9,7 @@ fn work(mesh: &Caller) -> usize {
 }
 
 /// One call on both sides with rooms of these lengths; answers the number and what the second point list holds.
-fn same_in(
-    mesh: &Caller,
-    rounds: u32,
-    weight: u32,
-    second: usize,
-    work: usize,
-) -> (u32, Vec<u32>) {
+fn same_in(mesh: &Caller, rounds: u32, weight: u32, second: usize, work: usize) -> (u32, Vec<u32>) {
     let (held, room) = (guard(0xa5a5_0001, second), guard(0xbeef_0007, work));
     let (mut proved, mut proved_work) = (held.clone(), room.clone());
     let (mut plain, mut plain_work) = (held.clone(), room.clone());
@@ -150,7 +144,11 @@ fn made_up_triangles() {
 #[test]
 fn every_coordinate_at_the_limit() {
     let mut seed = Seed::new(24);
-    let mut mesh = placed(&mut seed, 1002, (1..=1000).flat_map(|i| [0, i, i + 1]).collect());
+    let mut mesh = placed(
+        &mut seed,
+        1002,
+        (1..=1000).flat_map(|i| [0, i, i + 1]).collect(),
+    );
     mesh.points.fill(16_128);
     assert_eq!(same(&mesh, 100, 255), (0, mesh.points.clone()));
     mesh.points[..3].fill(0);
@@ -211,7 +209,12 @@ fn refusals_in_order() {
 fn meshes_that_do_not_fit() {
     let mut seed = Seed::new(27);
     let named = |triangles: Vec<u32>, seed: &mut Seed| placed(seed, 4, triangles);
-    for triangles in [vec![0, 1, 4], vec![0, 1, 2, 3, 3, 1], vec![0, 1, 0], vec![u32::MAX, 1, 2]] {
+    for triangles in [
+        vec![0, 1, 4],
+        vec![0, 1, 2, 3, 3, 1],
+        vec![0, 1, 0],
+        vec![u32::MAX, 1, 2],
+    ] {
         assert_eq!(same(&named(triangles, &mut seed), 1, 1).0, 7);
     }
     assert_eq!(same(&named(vec![0, 1], &mut seed), 1, 1).0, 6);
