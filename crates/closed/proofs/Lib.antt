@@ -1,0 +1,2 @@
+-- The law of cells, cubes under it, and what follows.
+pub mod Law

@@ -1,0 +1,4 @@
+-- What demand 3 says of a surface, in its words: how often triangles run from one point to another, which points lie on one outer face, and the
+-- balance; then of which mesh it is said: the one that the extractor left in the lent rooms, and the same one smoothed.
+pub mod Runs
+pub mod Left
