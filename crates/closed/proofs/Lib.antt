@@ -2,3 +2,4 @@
 pub mod Law
 pub mod Pattern
 pub mod Cells
+pub mod Cubes
