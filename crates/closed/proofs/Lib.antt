@@ -3,3 +3,4 @@ pub mod Law
 pub mod Pattern
 pub mod Cells
 pub mod Cubes
+pub mod Rim
