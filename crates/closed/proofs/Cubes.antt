@@ -70,8 +70,3 @@ module _ (n : Size) (above : ℕ → Bool) where
         next-y = λ x y z. simp add-zero;
         next-z = λ x y z. simp add-zero;
       }
-
-  -- the pattern's triangles are document 01's
-  pub cubes-made : (x y z : ℕ) → cubeTriangles n above x y z ≡ made cubes corner (gridEdge n) x y z
-  unfolding cubeTriangles caseAt
-  cubes-made x y z = refl

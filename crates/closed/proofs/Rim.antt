@@ -21,15 +21,10 @@ use Rattle.grid.proofs.Sites.{choose, coordinate-site}
 use Rattle.grid.proofs.Crossings.{edge-sample, edge-axis}
 use Rattle.grid.proofs.Edges.{grid-edge-crossed, grid-edge-small}
 use Rattle.closed.proofs.Law.{OuterLaw}
+use Rattle.closed.proofs.Numbered.{OnRim}
 use Rattle.closed.proofs.Pattern.{Ring, moved}
 use Rattle.closed.proofs.Cells.{across, made}
 use Rattle.closed.proofs.Cubes.{cubes, corner, cubes-next}
-
--- a crossed edge of the grid that lies on the first or the last outer face across an axis
-pub record OnRim (k : Kind) (n : Size) (above : ℕ → Bool) (axis : ℕ) (last : Bool) (e : ℕ) : Type 0 where
-  pub small : e < edgeCount k n
-  pub cut : crossed k n above e ≡ true
-  pub flat : onFace k n axis last e ≡ true
 
 -- what both ends of the segments of each ring have, those of all rings have
 pub rings-ends : (P : ℕ → Type 0) (above : ℕ → Bool) (edge : ℕ → ℕ → ℕ) (rs : List Ring)
