@@ -6,3 +6,6 @@ pub mod Cells
 pub mod Cubes
 pub mod Rim
 pub mod Balance
+pub mod Granted
+pub mod Promised
+pub mod Passes
