@@ -9,3 +9,4 @@ pub mod Balance
 pub mod Granted
 pub mod Promised
 pub mod Passes
+pub mod Shell

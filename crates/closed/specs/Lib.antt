@@ -2,3 +2,4 @@
 -- balance; then of which mesh it is said: the one that the extractor left in the lent rooms, and the same one smoothed.
 pub mod Runs
 pub mod Left
+pub mod Shell
