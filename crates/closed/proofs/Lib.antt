@@ -10,3 +10,5 @@ pub mod Granted
 pub mod Promised
 pub mod Passes
 pub mod Shell
+pub mod Fourfold
+pub mod Slit

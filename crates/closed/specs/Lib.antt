@@ -3,3 +3,4 @@
 pub mod Runs
 pub mod Left
 pub mod Shell
+pub mod Fourfold
