@@ -7,14 +7,14 @@ use lib.ListN.{getD}
 use Rattle.laws.specs.Mesh.{Arrow, Triangle}
 use Rattle.grid.specs.Limits.{leastSide}
 use Rattle.grid.specs.Grid.{Size, axes, mark}
-use Rattle.grid.specs.Point.{pointEdges, number}
+use Rattle.grid.specs.Point.{pointEdges}
 use Rattle.grid.specs.Mesh.{gridEdge, caseAt, cubeTriangles, edgeMesh, mesh}
 use Rattle.closed.specs.Runs.{Even, Balanced}
+use Rattle.closed.specs.Pattern.{Ring, cubes}
 use Rattle.closed.proofs.Law.{CellLaw}
 use Rattle.closed.proofs.Numbered.{cells-balanced, cells-unmarked}
-use Rattle.closed.proofs.Pattern.{Ring}
 use Rattle.closed.proofs.Cells.{across, made, cell-law}
-use Rattle.closed.proofs.Cubes.{cubes, cubes-law, corner, cubes-next}
+use Rattle.closed.proofs.Cubes.{cubes-law, corner, cubes-next}
 use Rattle.closed.proofs.Rim.{cubes-outer}
 
 module _ (n : Size) (above : ℕ → Bool) (hx : leastSide ≤ n .nx) (hy : leastSide ≤ n .ny) (hz : leastSide ≤ n .nz) where

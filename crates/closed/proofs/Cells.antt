@@ -6,13 +6,14 @@ use Prim.Native.Nat.{ℕ, _+_}
 use native.Mathlib.Omega.{arith}
 use lib.ListN.{drop}
 use Rattle.laws.specs.Sum.{sumOf}
-use Rattle.laws.specs.Mesh.{Arrow, Triangle, rename, sides, total}
+use Rattle.laws.specs.Mesh.{Arrow, Triangle, rename, total}
 use Rattle.laws.proofs.Sums.{sum-map, sum-same}
 use Rattle.laws.proofs.Sides.{total-rename}
-use Rattle.cube.specs.Face.{Step, step, cuts, wayRound, faceSegments, segmentsOf}
+use Rattle.cube.specs.Face.{step, cuts, wayRound, faceSegments, segmentsOf}
 use Rattle.cube.proofs.Way.{byNamed, arrowNamed, cuts-renamed}
+use Rattle.closed.specs.Pattern.{Ring, moved, Pattern}
 use Rattle.closed.proofs.Law.{CellLaw}
-use Rattle.closed.proofs.Pattern.{Ring, moved, Pattern, PatternLaw, ring-by-ring, faces-parted}
+use Rattle.closed.proofs.Pattern.{PatternLaw, ring-by-ring, faces-parted}
 
 -- the edges of a ring may be renamed before or after
 module _ (above : ℕ → Bool) (edge : ℕ → ℕ → ℕ) (name : ℕ → ℕ) where

@@ -1,35 +1,22 @@
 -- Whole cubes as a pattern: it keeps the law of patterns, and a cube's high sides are its neighbours' low ones.
-use mathlib.Core.Path.{_≡_, refl, ap, ap₂, sym, _∙_}
-use mathlib.Core.List.{List, [], _∷_, map, flatMap}
-use mathlib.Core.Bool.{Bool, true, cond, _&&_}
-use Prim.Native.Nat.{ℕ, _+_, _*_, _-_, _/_, _%_, _^_, min, max}
+use mathlib.Core.Path.{_≡_, refl}
+use mathlib.Core.List.{[], _∷_, flatMap}
+use mathlib.Core.Bool.{Bool, true}
+use Prim.Native.Nat.{ℕ, _+_}
 use native.Mathlib.Nat.{add-zero, min-comm, max-comm}
-use lib.Dec.{eqb}
 use Rattle.laws.specs.Order.{rearranged, isIn, without}
-use Rattle.laws.specs.Mesh.{Triangle, rename, sides, total}
-use Rattle.cube.specs.Cube.{caseOf, edgeBetween, lowCorner, axisOf}
-use Rattle.cube.specs.Face.{Step, cuts, wayRound, faceSegments, segmentsOf}
-use Rattle.cube.specs.Answer.{cubeFaces, segments, triangles}
+use Rattle.laws.specs.Mesh.{sides, total}
+use Rattle.cube.specs.Cube.{caseOf, edgeBetween}
+use Rattle.cube.specs.Face.{wayRound, faceSegments, segmentsOf}
+use Rattle.cube.specs.Answer.{cubeFaces, triangles}
 use Rattle.cube.proofs.Cases.{case-balance}
 use Rattle.cube.proofs.Corners.{case-small, segments-of-case}
 use Rattle.cube.proofs.Turned.{back, face-turned}
-use Rattle.grid.specs.Grid.{Size, site}
-use Rattle.grid.specs.Mesh.{cornerSite, gridEdge, caseAt, cubeTriangles}
-use Rattle.closed.proofs.Pattern.{Pattern, PatternLaw, TurnsRound, sameRing, andBack, fitted}
-use Rattle.closed.proofs.Cells.{Neighbours, made}
-
--- the faces are document 01's, and those at the low sides are the first, third and fifth of them
-abbrev pub cubes : Pattern
-cubes =
-    record {
-      edge = edgeBetween;
-      faces = cubeFaces;
-      low-x = (0 ∷ 4 ∷ 6 ∷ 2 ∷ []) ∷ [];
-      low-y = (0 ∷ 1 ∷ 5 ∷ 4 ∷ []) ∷ [];
-      low-z = (0 ∷ 2 ∷ 3 ∷ 1 ∷ []) ∷ [];
-      inner = [];
-      triangles = λ above. triangles (caseOf above);
-    }
+use Rattle.grid.specs.Grid.{Size}
+use Rattle.grid.specs.Mesh.{cornerSite, gridEdge}
+use Rattle.closed.specs.Pattern.{andBack, fitted, TurnsRound, cubes}
+use Rattle.closed.proofs.Pattern.{PatternLaw, sameRing}
+use Rattle.closed.proofs.Cells.{Neighbours}
 
 edge-either-way : (i j : ℕ) → edgeBetween i j ≡ edgeBetween j i
 edge-either-way i j = rw (min-comm i j, max-comm i j)

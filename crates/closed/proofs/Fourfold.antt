@@ -1,8 +1,7 @@
 -- Points 2 and 3 of the two cubes are joined by four sides, two each way: the balance holds, and "exactly twice" does not.
 use mathlib.Core.Path.{_≡_, refl}
-use mathlib.Core.List.{List, [], _∷_, map, flatMap}
-use mathlib.Core.Bool.{Bool, false, xor}
-use Prim.Native.Nat.{ℕ, _+_, _<_}
+use mathlib.Core.List.{flatMap}
+use mathlib.Core.Bool.{false, xor}
 use native.Mathlib.Omega.{arith}
 use lib.ListN.{getD}
 use Rattle.laws.specs.Range.{sumTo, joinTo, joinBox, countTo, keepTo}
@@ -13,7 +12,7 @@ use Rattle.cube.specs.Cube.{caseOf, isAbove}
 use Rattle.cube.specs.Face.{cuts, wayRound, faceSegments, segmentsOf}
 use Rattle.cube.specs.Loop.{loops, fan}
 use Rattle.cube.specs.Answer.{segments, triangles}
-use Rattle.grid.specs.Grid.{Size, axes, site, coordinate, side, isAboveGrey, otherEnd, fitsAlong, isThere, isOutermost, someFace, crossedFrom, crossed, onFaceFrom, onFace}
+use Rattle.grid.specs.Grid.{axes, site, coordinate, side, isAboveGrey, otherEnd, fitsAlong, isThere, isOutermost, someFace, crossedFrom, crossed, onFaceFrom, onFace}
 use Rattle.grid.specs.Point.{pointEdges, number}
 use Rattle.grid.specs.Mesh.{cornerSite, gridEdge, caseAt, cubeTriangles, edgeMesh, mesh}
 use Rattle.closed.specs.Runs.{runs, onOneFace}

@@ -1,8 +1,8 @@
 -- What a granted call of the extractor left, read out of the front of the lent rooms: the defined points, marks and triangles.
 use mathlib.Core.Path.{_≡_, refl, ap, sym, _∙_, subst}
-use mathlib.Core.List.{List, [], _∷_, _++_, map, flatMap}
+use mathlib.Core.List.{List, [], _∷_, map, flatMap}
 use mathlib.Core.Bool.{Bool, true, false, cond, not}
-use Prim.Native.Nat.{ℕ, zero, suc, _+_, _*_, _/_, _<_, _≤_, min}
+use Prim.Native.Nat.{ℕ, zero, suc, _+_, _*_, _<_, _≤_, min}
 use native.Mathlib.Nat.{mul-one}
 use native.Mathlib.Omega.{arith}
 use lib.Dec.{eqb, ltb}
@@ -22,7 +22,7 @@ use Rattle.extract.specs.Outcome.{Rooms, Outcome, refused, cleared, sidesFit, p
 use Rattle.extract.specs.Promise.{Extracts}
 use Rattle.extract.proofs.Refusals.{sides-within}
 use Rattle.mesh.specs.Mesh.{triangleCount, triangleAt}
-use Rattle.closed.specs.Left.{trianglesOf, Mesh, meshLeft, edgesLeft}
+use Rattle.closed.specs.Left.{trianglesOf, meshLeft, edgesLeft}
 
 -- triangles written flat and read again
 pub length-flat-triangles : (ts : List Triangle) → length (flat ts) ≡ 3 * length ts

@@ -10,7 +10,7 @@ use Rattle.laws.specs.Range.{joinBox}
 use Rattle.laws.specs.Sum.{sumOf, All}
 use Rattle.laws.specs.Mesh.{Arrow, Triangle, sides, total}
 use Rattle.laws.proofs.Sides.{sides-append, total-append}
-use Rattle.laws.proofs.Box.{Shut, measure-box, box-even}
+use Rattle.laws.proofs.Box.{measure-box, box-even}
 use Rattle.cube.proofs.Way.{Ends}
 
 -- a weight of arrows there and back

@@ -1,10 +1,9 @@
 -- A mesh that the extractor left passes every check of a caller's mesh, so that no call on a mesh refuses it by 6, 7, 8 or 9.
-use mathlib.Core.Path.{_≡_, refl, ap, sym, _∙_, subst}
-use mathlib.Core.List.{List, [], _∷_, _++_, map, flatMap}
-use mathlib.Core.Bool.{Bool, true, false, cond, not, _&&_}
-use Prim.Native.Nat.{ℕ, zero, suc, _+_, _*_, _/_, _%_, _<_, _≤_}
+use mathlib.Core.Path.{_≡_, refl, ap, _∙_}
+use mathlib.Core.List.{List, [], _∷_, map, flatMap}
+use mathlib.Core.Bool.{Bool, true}
+use Prim.Native.Nat.{ℕ, zero, suc, _*_, _/_, _%_, _<_, _≤_}
 use native.Mathlib.Omega.{arith}
-use lib.Dec.{eqb, leb, ltb}
 use lib.ListN.{length, getD, length-map}
 use borrow.Author.Tests.{eq-eqb, ne-eqb, lt-ltb, le-leb}
 use Rattle.laws.specs.Range.{allTo}
@@ -13,17 +12,17 @@ use Rattle.laws.specs.Mesh.{Arrow, Triangle, triangle, sides, flat}
 use Rattle.laws.proofs.Ranges.{length-flat}
 use Rattle.laws.proofs.Sums.{all-append, all-map, all-weaken}
 use Rattle.grid.specs.Limits.{mostSide, mostPoints, mostTriangles, mostCoordinate}
-use Rattle.grid.specs.Grid.{axes, isAboveGrey, crossed, mark, side}
+use Rattle.grid.specs.Grid.{axes, isAboveGrey, mark, side}
 use Rattle.grid.specs.Point.{pointEdges, place}
 use Rattle.grid.specs.Mesh.{mesh}
-use Rattle.grid.specs.Work.{size, SidesFit}
+use Rattle.grid.specs.Work.{size}
 use Rattle.grid.proofs.Points.{place-small, mark-small, point-of-edge}
 use Rattle.grid.proofs.Sound.{PointSide, mesh-sound}
-use Rattle.extract.specs.Outcome.{Rooms, Outcome, pointList, triangleList}
+use Rattle.extract.specs.Outcome.{Rooms, Outcome}
 use Rattle.extract.specs.Promise.{Extracts}
-use Rattle.mesh.specs.Mesh.{triangleCount, triangleAt}
+use Rattle.mesh.specs.Mesh.{triangleCount}
 use Rattle.mesh.specs.Check.{lengthsFit, namesThree, trianglesFit, allWithin, meshNumber}
-use Rattle.closed.specs.Left.{Mesh, meshLeft}
+use Rattle.closed.specs.Left.{meshLeft}
 use Rattle.closed.proofs.Granted.{Granted, left-granted, length-flat-triangles, triangle-at-flat, place-three}
 
 -- a test that every number below n passes

@@ -1,29 +1,21 @@
 -- A pattern says how each cell is cut: the faces of its pieces as rings of corners, and its triangles by which corners are above. Where the faces fit
 -- together, inside a cell and from cell to cell, and the triangles run as the faces' segments do, the law of cells holds.
-use mathlib.Core.Path.{_≡_, refl, ap, sym, _∙_}
-use mathlib.Core.List.{List, [], _∷_, _++_, map, flatMap}
+use mathlib.Core.Path.{_≡_, refl, sym, _∙_}
+use mathlib.Core.List.{List, [], _∷_, _++_, map}
 use mathlib.Core.Bool.{Bool, true, false, _&&_, false≢true}
-use Prim.Native.Nat.{ℕ, _+_, _<_}
+use Prim.Native.Nat.{ℕ, _+_}
 use native.Mathlib.Omega.{arith}
 use lib.Dec.{eqb}
 use borrow.Author.Tests.{eqb-true}
 use Rattle.laws.specs.Sum.{sumOf, All}
 use Rattle.laws.specs.Order.{rearranged}
-use Rattle.laws.specs.Mesh.{Arrow, Triangle, rename, sides, total}
+use Rattle.laws.specs.Mesh.{sides, total}
 use Rattle.laws.proofs.Tests.{both}
-use Rattle.laws.proofs.Sums.{sum-append, sum-map, sum-same, sum-flat}
+use Rattle.laws.proofs.Sums.{sum-append, sum-flat}
 use Rattle.laws.proofs.Rearranged.{sum-rearranged}
-use Rattle.laws.proofs.Sides.{total-rename}
-use Rattle.cube.specs.Face.{Step, cuts, wayRound, faceSegments, segmentsOf}
+use Rattle.cube.specs.Face.{faceSegments, segmentsOf}
 use Rattle.cube.proofs.Turned.{back}
-use Rattle.closed.proofs.Law.{CellLaw}
-
--- a ring of corners, and the one d corners further on
-abbrev pub Ring : Type 0
-Ring = List ℕ
-
-abbrev pub moved : ℕ → Ring → Ring
-moved d ring = map (λ c. c + d) ring
+use Rattle.closed.specs.Pattern.{Ring, moved, Pattern, andBack, fitted, TurnsRound}
 
 unfoldable pub sameRing : Ring → Ring → Bool
 sameRing [] [] = true
@@ -40,32 +32,7 @@ same-ring (c ∷ cs) (d ∷ ds) h =
     let p = both (eqb c d) (sameRing cs ds) h in
     rw (eqb-true c d (p .0), same-ring cs ds (p .1))
 
--- `edge` numbers the edge between two corners, corner c being x + 2y + 4z; `faces` are those of all pieces, seen from outside the piece; `low-x` is
--- the part of them at the cell's side towards the smaller x, and so on; `inner` has, of each face between two pieces, one side
-pub record Pattern : Type 0 where
-  pub edge : ℕ → ℕ → ℕ
-  pub faces : List Ring
-  pub low-x : List Ring
-  pub low-y : List Ring
-  pub low-z : List Ring
-  pub inner : List Ring
-  pub triangles : (ℕ → Bool) → List Triangle
-
--- rings, and others seen from the other side
-unfoldable pub andBack : List Ring → List Ring → List Ring
-andBack rs ss = rs ++ map back ss
-
--- the faces as they have to be: the low sides, the high sides seen from within the cell, and the inner faces from both sides
-unfoldable pub fitted : Pattern → List Ring
-fitted p =
-    andBack (p .low-x) (map (moved 1) (p .low-x))
-    ++ (andBack (p .low-y) (map (moved 2) (p .low-y)) ++ (andBack (p .low-z) (map (moved 4) (p .low-z)) ++ andBack (p .inner) (p .inner)))
-
--- a ring seen from the other side has the same segments, running the other way
-abbrev pub TurnsRound : (ℕ → ℕ → ℕ) → Ring → Type 0
-TurnsRound edge r = (above : ℕ → Bool) (w : ℕ → ℕ → ℕ)
-    → total w (faceSegments above edge (back r)) ≡ total (λ i j. w j i) (faceSegments above edge r)
-
+-- what a pattern owes
 pub record PatternLaw (p : Pattern) : Type 0 where
   pub fit : rearranged sameRing (p .faces) (fitted p) ≡ true
   pub turns-x : All (TurnsRound (p .edge)) (map (moved 1) (p .low-x))

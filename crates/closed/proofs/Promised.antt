@@ -1,17 +1,15 @@
 -- The balance as a reader of the extractor's promise has it: of the triangles in the lent room, for the grid edges and marks in theirs.
 use mathlib.Core.Path.{_≡_, refl, ap, sym, _∙_}
 use mathlib.Core.List.{List, [], _∷_, map}
-use mathlib.Core.Bool.{Bool}
 use Prim.Native.Nat.{ℕ, zero, suc, _<_}
 use native.Mathlib.Omega.{arith}
 use lib.ListN.{length, getD, length-map}
-use Rattle.laws.specs.Mesh.{Triangle, flat}
 use Rattle.grid.specs.Grid.{axes, isAboveGrey, mark}
 use Rattle.grid.specs.Work.{size}
 use Rattle.extract.specs.Outcome.{Rooms, Outcome, pointList, triangleList}
 use Rattle.extract.specs.Promise.{Extracts}
 use Rattle.closed.specs.Runs.{Even, Balanced}
-use Rattle.closed.specs.Left.{trianglesOf, Mesh, meshLeft, edgesLeft, smoothed}
+use Rattle.closed.specs.Left.{trianglesOf, meshLeft, edgesLeft, smoothed}
 use Rattle.closed.proofs.Balance.{balanced, unmarked-balanced}
 use Rattle.closed.proofs.Granted.{Granted, left-granted, triangles-of-flat}
 

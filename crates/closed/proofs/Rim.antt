@@ -1,8 +1,8 @@
 -- The segments of a grid's outer faces have both their ends there.
-use mathlib.Core.Path.{_≡_, refl, ap, ap₂, sym, _∙_, subst}
-use mathlib.Core.List.{List, [], _∷_, _++_, map, flatMap}
+use mathlib.Core.Path.{_≡_, refl, ap, ap₂, _∙_, subst}
+use mathlib.Core.List.{List, [], _∷_, map, flatMap}
 use mathlib.Core.Bool.{Bool, true, false, cond, _&&_, xor}
-use Prim.Native.Nat.{ℕ, zero, suc, _+_, _*_, _-_, _/_, _%_, _^_, _<_, _≤_}
+use Prim.Native.Nat.{ℕ, zero, suc, _+_, _-_, _^_, _<_, _≤_}
 use native.Mathlib.Omega.{arith}
 use lib.Dec.{eqb, ltb}
 use borrow.Author.Tests.{eqb-true, eq-eqb, ltb-true, ltb-false}
@@ -12,19 +12,19 @@ use Rattle.laws.specs.Mesh.{Arrow}
 use Rattle.laws.proofs.Tests.{both}
 use Rattle.laws.proofs.Sums.{all-append}
 use Rattle.cube.specs.Cube.{cornerX, cornerY, cornerZ, isAbove, edgeBetween, lowCorner, highCorner, axisOf, crossed as cubeCrossed}
-use Rattle.cube.specs.Face.{Step, cuts, wayRound, faceSegments, segmentsOf}
+use Rattle.cube.specs.Face.{wayRound, faceSegments, segmentsOf}
 use Rattle.cube.proofs.Corners.{corner-of-case}
 use Rattle.cube.proofs.Way.{Ends, ends-crossed}
-use Rattle.grid.specs.Grid.{Size, Kind, axes, site, coordinate, side, along, isOutermost, edgeCount, crossed, onFaceFrom, onFace}
+use Rattle.grid.specs.Grid.{Size, axes, site, side, along, isOutermost, onFaceFrom, onFace}
 use Rattle.grid.specs.Mesh.{cornerSite, gridEdge, caseAt}
 use Rattle.grid.proofs.Sites.{choose, coordinate-site}
 use Rattle.grid.proofs.Crossings.{edge-sample, edge-axis}
 use Rattle.grid.proofs.Edges.{grid-edge-crossed, grid-edge-small}
+use Rattle.closed.specs.Pattern.{Ring, moved, cubes}
 use Rattle.closed.proofs.Law.{OuterLaw}
 use Rattle.closed.proofs.Numbered.{OnRim}
-use Rattle.closed.proofs.Pattern.{Ring, moved}
 use Rattle.closed.proofs.Cells.{across, made}
-use Rattle.closed.proofs.Cubes.{cubes, corner, cubes-next}
+use Rattle.closed.proofs.Cubes.{corner, cubes-next}
 
 -- what both ends of the segments of each ring have, those of all rings have
 pub rings-ends : (P : ℕ → Type 0) (above : ℕ → Bool) (edge : ℕ → ℕ → ℕ) (rs : List Ring)

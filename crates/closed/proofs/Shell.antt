@@ -7,12 +7,12 @@ use native.Mathlib.Omega.{arith}
 use lib.Dec.{eqb}
 use borrow.Author.Tests.{ne-eqb}
 use Rattle.laws.specs.Range.{one-if}
-use Rattle.laws.specs.Sum.{sumOf, All}
-use Rattle.laws.specs.Mesh.{Arrow, Triangle, sides, total}
+use Rattle.laws.specs.Sum.{sumOf}
+use Rattle.laws.specs.Mesh.{Triangle, sides, total}
 use Rattle.extract.specs.Outcome.{Rooms, Outcome}
 use Rattle.extract.specs.Promise.{Extracts}
 use Rattle.closed.specs.Runs.{runs, Even}
-use Rattle.closed.specs.Left.{trianglesOf, Mesh, meshLeft, smoothed}
+use Rattle.closed.specs.Left.{trianglesOf, meshLeft, smoothed}
 use Rattle.closed.specs.Shell.{SidesStay, Unmarked, trianglesIn, Closed}
 use Rattle.closed.proofs.Promised.{extract-unmarked, smoothed-unmarked}
 

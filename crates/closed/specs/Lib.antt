@@ -4,3 +4,4 @@ pub mod Runs
 pub mod Left
 pub mod Shell
 pub mod Fourfold
+pub mod Pattern
