@@ -19,7 +19,7 @@ turn true w i j = w i j
 turn false w i j = w j i
 
 -- arrows with both ends in a place where nothing weighs
-ends-nothing : (P : ℕ → Type 0) (w : ℕ → ℕ → ℕ) → ((i j : ℕ) → P i → P j → w i j ≡ 0) → (ss : List Arrow) → All (Ends P) ss → total w ss ≡ 0
+pub ends-nothing : (P : ℕ → Type 0) (w : ℕ → ℕ → ℕ) → ((i j : ℕ) → P i → P j → w i j ≡ 0) → (ss : List Arrow) → All (Ends P) ss → total w ss ≡ 0
 unfolding total sumOf
 ends-nothing P w none [] a = refl
 ends-nothing P w none (s ∷ ss) a =

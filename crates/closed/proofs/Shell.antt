@@ -92,10 +92,10 @@ module _ (nx ny nz grey : ℕ) (samples : List ℕ) (before : Rooms) (after : Ou
       → Closed (trianglesIn inside (trianglesOf (meshLeft after .triangles)))
   shell-closed stay unmarked =
       closes inside (trianglesOf (meshLeft after .triangles)) stay
-      (λ p q h. extract-unmarked nx ny nz grey samples before after extracts none p q (unmarked p h .0) (unmarked p h .1))
+      (λ p q h. extract-unmarked nx ny nz grey samples before after extracts none p q (unmarked p h))
 
   pub smoothed-shell-closed : (k w : ℕ) → let m = smoothed k w (meshLeft after) in
       SidesStay inside (trianglesOf (m .triangles)) → Unmarked inside m → Closed (trianglesIn inside (trianglesOf (m .triangles)))
   smoothed-shell-closed k w stay unmarked =
       closes inside (trianglesOf (smoothed k w (meshLeft after) .triangles)) stay
-      (λ p q h. smoothed-unmarked nx ny nz grey samples before after extracts none k w p q (unmarked p h .0) (unmarked p h .1))
+      (λ p q h. smoothed-unmarked nx ny nz grey samples before after extracts none k w p q (unmarked p h))

@@ -2,8 +2,8 @@
 use mathlib.Core.Path.{_≡_}
 use mathlib.Core.List.{List, [], _∷_}
 use mathlib.Core.Bool.{Bool, true, cond}
-use Prim.Native.Nat.{ℕ, _<_}
-use lib.ListN.{length, getD}
+use Prim.Native.Nat.{ℕ}
+use lib.ListN.{getD}
 use Rattle.laws.specs.Sum.{All}
 use Rattle.laws.specs.Mesh.{Triangle, sides}
 use Rattle.closed.specs.Runs.{Even}
@@ -13,9 +13,9 @@ use Rattle.closed.specs.Left.{Mesh}
 abbrev pub SidesStay : (ℕ → Bool) → List Triangle → Type 0
 SidesStay inside ts = All (λ s. inside (s .from) ≡ inside (s .to)) (sides ts)
 
--- none of them is marked; V is the length of the marks
+-- none of them is marked
 abbrev pub Unmarked : (ℕ → Bool) → Mesh → Type 0
-Unmarked inside m = (p : ℕ) → inside p ≡ true → (p < length (m .marks)) × (getD (m .marks) p 0 ≡ 0)
+Unmarked inside m = (p : ℕ) → inside p ≡ true → getD (m .marks) p 0 ≡ 0
 
 -- its triangles, by their first corners
 unfoldable pub trianglesIn : (ℕ → Bool) → List Triangle → List Triangle
