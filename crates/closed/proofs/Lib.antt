@@ -1,4 +1,6 @@
--- From the law of cells to the balance of a mesh. Law, Numbered, Pattern and Cells know no cube; Cubes and Rim put cubes under them.
+-- Law, Numbered, Pattern and Cells: from the law of cells to the balance between points, for cells cut in any way. Cubes and Rim put cubes under it.
+-- Balance: the mesh that document 01 defines. Granted, Promised and Passes: what the extractor left in the lent rooms. Shell: a closed shell. Fourfold and
+-- Slit: two examples.
 pub mod Law
 pub mod Numbered
 pub mod Pattern

@@ -1,5 +1,5 @@
--- How cells are cut, as a table of faces: each face as the ring of its corners, gone round counterclockwise as seen from outside. Request (xiii)
--- adds a pattern for tetrahedra, and the law of cells reads both.
+-- How cells are cut, as a table of faces: each face as the ring of its corners, gone round counterclockwise as seen from outside. The law of cells reads
+-- any such table; `cubes` is document 01's.
 use mathlib.Core.Path.{_≡_}
 use mathlib.Core.List.{List, [], _∷_, _++_, map}
 use mathlib.Core.Bool.{Bool, cond}
@@ -33,7 +33,7 @@ pub record Pattern : Type 0 where
 unfoldable pub andBack : List Ring → List Ring → List Ring
 andBack rs ss = rs ++ map back ss
 
--- the faces as they have to be: the low sides, the high sides as the next cell does not see them, and the inner faces from both sides
+-- the faces as they have to be: the low sides; the high sides, which are the next cells' low sides seen from this cell; the inner faces from both sides
 unfoldable pub fitted : Pattern → List Ring
 fitted p =
     andBack (p .low-x) (map (moved 1) (p .low-x))
