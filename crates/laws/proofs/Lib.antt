@@ -1,6 +1,7 @@
 -- Each law is stated once, for whoever needs it. Reading order as in specs/Lib.antt.
 pub mod Tests
 pub mod Ranges
+pub mod Box
 pub mod Keep
 pub mod Rows
 pub mod Sums

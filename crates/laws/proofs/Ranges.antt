@@ -146,10 +146,14 @@ unfolding countTo sumTo
 count-le zero p = omega arith
 count-le (suc n) p = omega (arith, count-le n p, bit-le (p n))
 
--- nothing passes
+-- terms that are nothing, and numbers of which none passes
+pub sum-none : (n : ℕ) (f : ℕ → ℕ) → ((i : ℕ) → i < n → f i ≡ 0) → sumTo n f ≡ 0
+unfolding sumTo
+sum-none n f none = sum-quiet 0 n f (omega arith) (λ i a b. none i b)
+
 pub count-none : (n : ℕ) (p : ℕ → Bool) → ((i : ℕ) → i < n → p i ≡ false) → countTo n p ≡ 0
-unfolding countTo sumTo
-count-none n p none = sum-quiet 0 n (λ i. one-if (p i)) (omega arith) (λ i a b. rw (none i b))
+unfolding countTo
+count-none n p none = sum-none n (λ i. one-if (p i)) (λ i l. rw (none i l))
 
 -- nothing passes beyond n
 pub keep-none : (n len : ℕ) (p : ℕ → Bool) → ((i : ℕ) → i < len → p (n + i) ≡ false) → keepTo (n + len) p ≡ keepTo n p

@@ -1,0 +1,149 @@
+-- A mesh that the extractor left passes every check of a caller's mesh, so that no call on a mesh refuses it by 6, 7, 8 or 9.
+use mathlib.Core.Path.{_≡_, refl, ap, _∙_}
+use mathlib.Core.List.{List, [], _∷_, map, flatMap}
+use mathlib.Core.Bool.{Bool, true}
+use Prim.Native.Nat.{ℕ, zero, suc, _*_, _/_, _%_, _<_, _≤_}
+use native.Mathlib.Omega.{arith}
+use lib.ListN.{length, getD, length-map}
+use borrow.Author.Tests.{eq-eqb, ne-eqb, lt-ltb, le-leb}
+use Rattle.laws.specs.Range.{allTo}
+use Rattle.laws.specs.Sum.{All}
+use Rattle.laws.specs.Mesh.{Arrow, Triangle, triangle, sides, flat}
+use Rattle.laws.proofs.Ranges.{length-flat}
+use Rattle.laws.proofs.Sums.{all-append, all-map, all-weaken}
+use Rattle.grid.specs.Limits.{mostSide, mostPoints, mostTriangles, mostCoordinate}
+use Rattle.grid.specs.Grid.{axes, isAboveGrey, mark, side}
+use Rattle.grid.specs.Point.{pointEdges, place}
+use Rattle.grid.specs.Mesh.{mesh}
+use Rattle.grid.specs.Work.{size}
+use Rattle.grid.proofs.Points.{place-small, mark-small, point-of-edge}
+use Rattle.grid.proofs.Sound.{PointSide, mesh-sound}
+use Rattle.extract.specs.Outcome.{Rooms, Outcome}
+use Rattle.extract.specs.Promise.{Extracts}
+use Rattle.mesh.specs.Mesh.{triangleCount}
+use Rattle.mesh.specs.Check.{lengthsFit, namesThree, trianglesFit, allWithin, meshNumber}
+use Rattle.closed.specs.Left.{meshLeft}
+use Rattle.closed.proofs.Granted.{Granted, left-granted, length-flat-triangles, triangle-at-flat, place-three}
+
+-- a test that every number below n passes
+all-to : (n : ℕ) (p : ℕ → Bool) → ((i : ℕ) → i < n → p i ≡ true) → allTo n p ≡ true
+unfolding allTo
+all-to zero p h = refl
+all-to (suc n) p h = rw (h n (omega arith), all-to n p (λ i l. h i (omega arith)))
+
+-- a property of every element, at one place
+all-at-place : {A : Type 0} (P : A → Type 0) (xs : List A) → All P xs → (i : ℕ) (d : A) → i < length xs → P (getD xs i d)
+all-at-place P [] a i d l = absurd (omega arith)
+all-at-place P (x ∷ xs) a zero d l = a .0
+all-at-place P (x ∷ xs) a (suc i) d l = all-at-place P xs (a .1) i d (omega arith)
+
+-- and from each place
+all-of-places : {A : Type 0} (P : A → Type 0) (d : A) (xs : List A) → ((i : ℕ) → i < length xs → P (getD xs i d)) → All P xs
+all-of-places P d [] h = tt
+all-of-places P d (x ∷ xs) h = (h 0 (omega arith), all-of-places P d xs (λ i l. h (suc i) (omega arith)))
+
+all-flat : {A B : Type 0} (P : B → Type 0) (g : A → List B) (xs : List A) → All (λ x. All P (g x)) xs → All P (flatMap g xs)
+unfolding flatMap
+all-flat P g [] a = tt
+all-flat P g (x ∷ xs) a = all-append P (g x) (flatMap g xs) (a .0) (all-flat P g xs (a .1))
+
+within : (most : ℕ) (xs : List ℕ) → All (λ x. x ≤ most) xs → allWithin most xs ≡ true
+unfolding allWithin
+within most xs a = all-to (length xs) _ (λ i l. le-leb (getD xs i 0) most (all-at-place (λ x. x ≤ most) xs a i 0 l))
+
+-- 7: where every side joins two different points below v, every triangle names three different points below v
+module _ (v : ℕ) where
+  abbrev Joins : Arrow → Type 0
+  Joins s = (s .from < v) × (s .to < v) × (s .from ≡ s .to → ⊥)
+
+  three-named : (ts : List Triangle) → All Joins (sides ts) → All (λ t. namesThree v t ≡ true) ts
+  unfolding sides namesThree
+  three-named [] a = tt
+  three-named (t ∷ ts) a =
+      let first = a .0 in
+      let second = a .1 .0 in
+      let third = a .1 .1 .0 in (
+        rw (
+          lt-ltb (t .one) v (first .0),
+          lt-ltb (t .two) v (second .0),
+          lt-ltb (t .three) v (third .0),
+          ne-eqb (t .one) (t .two) (first .2),
+          ne-eqb (t .two) (t .three) (second .2),
+          ne-eqb (t .three) (t .one) (third .2),
+        ),
+        three-named ts (a .1 .1 .1),
+      )
+
+  flat-fits : (ts : List Triangle) → All Joins (sides ts) → trianglesFit (flat ts) v ≡ true
+  unfolding trianglesFit
+  flat-fits ts a =
+      all-to (triangleCount (flat ts)) _
+      (λ i l.
+      let below : i < length ts = omega (arith, l, length-flat-triangles ts) in
+      ap (namesThree v) (triangle-at-flat ts i (triangle 0 0 0) below)
+      ∙ all-at-place (λ t. namesThree v t ≡ true) ts (three-named ts a) i (triangle 0 0 0) below)
+
+-- 6: three numbers a point and three a triangle, within the limits
+lengths-fit : (points triangles v t : ℕ) → points ≡ 3 * v → triangles ≡ 3 * t → v ≤ mostPoints → t ≤ mostTriangles → lengthsFit points triangles v ≡ true
+unfolding lengthsFit
+lengths-fit points triangles v t p q hv ht =
+    rw (
+      eq-eqb points (3 * v) p,
+      eq-eqb (triangles % 3) 0 (omega arith),
+      le-leb v mostPoints hv,
+      le-leb (triangles / 3) mostTriangles (omega arith),
+    )
+
+module _ (nx ny nz grey : ℕ) (samples : List ℕ) (before : Rooms) (after : Outcome) (extracts : Extracts nx ny nz grey samples before after)
+    (none : after .number ≡ 0) where
+  left : Granted nx ny nz grey samples before after
+  left = left-granted nx ny nz grey samples before after extracts none
+
+  abbrev above : ℕ → Bool
+  above = isAboveGrey grey samples
+
+  abbrev points : List ℕ
+  points = pointEdges axes (size nx ny nz) above
+
+  abbrev v : ℕ
+  v = length points
+
+  -- 8: each point's place is within the limit
+  most : (axis : ℕ) → side (size nx ny nz) axis ≤ mostSide
+  unfolding side
+  most zero = left .sides-fit .most-x
+  most (suc zero) = left .sides-fit .most-y
+  most (suc (suc axis)) = left .sides-fit .most-z
+
+  places-fit : All (λ c. c ≤ mostCoordinate) (flatMap (place axes (size nx ny nz) grey samples) points)
+  places-fit =
+      all-flat (λ c. c ≤ mostCoordinate) (place axes (size nx ny nz) grey samples) points
+      (all-of-places (λ e. All (λ c. c ≤ mostCoordinate) (place axes (size nx ny nz) grey samples e)) 0 points
+      (λ p l. place-small axes (size nx ny nz) grey samples most (getD points p 0) (point-of-edge axes (size nx ny nz) above p l .passes)))
+
+  marks-fit : All (λ m. m ≤ 1) (map (mark axes (size nx ny nz)) points)
+  marks-fit =
+      all-map (λ m. m ≤ 1) (mark axes (size nx ny nz)) points
+      (all-of-places (λ e. mark axes (size nx ny nz) e ≤ 1) 0 points (λ p l. mark-small axes (size nx ny nz) above (getD points p 0)))
+
+  sides-join : All (Joins v) (sides (mesh (size nx ny nz) above))
+  sides-join =
+      all-weaken (PointSide (size nx ny nz) above) (Joins v) (λ s h. (h .start, h .end, h .apart)) (sides (mesh (size nx ny nz) above))
+      (mesh-sound (size nx ny nz) above)
+
+  pub extract-passes : meshNumber (meshLeft after .points) (meshLeft after .triangles) (meshLeft after .marks) ≡ 0
+  unfolding meshNumber
+  extract-passes =
+      let ts = mesh (size nx ny nz) above in
+      let many = length-map points (mark axes (size nx ny nz)) in
+      rw (left .places-are, left .triangles-are, left .marks-are, many)
+      (rw (
+        lengths-fit (length (flatMap (place axes (size nx ny nz) grey samples) points)) (length (flat ts)) v (length ts)
+            (length-flat 3 (place axes (size nx ny nz) grey samples) (place-three nx ny nz grey samples before) points)
+            (length-flat-triangles ts)
+            (left .points-fit)
+            (left .triangles-fit),
+        flat-fits v ts sides-join,
+        within mostCoordinate (flatMap (place axes (size nx ny nz) grey samples) points) places-fit,
+        within 1 (map (mark axes (size nx ny nz)) points) marks-fit,
+      ))

@@ -1,0 +1,102 @@
+-- A set of points that no side leads out of, none of them on an outer face, has closed triangles.
+use mathlib.Core.Path.{_≡_, refl, ap, sym, _∙_}
+use mathlib.Core.List.{List, [], _∷_}
+use mathlib.Core.Bool.{Bool, true, false, cond, _&&_, and-false, true≢false, false≢true}
+use Prim.Native.Nat.{ℕ, _+_}
+use native.Mathlib.Omega.{arith}
+use lib.Dec.{eqb}
+use borrow.Author.Tests.{ne-eqb}
+use Rattle.laws.specs.Range.{one-if}
+use Rattle.laws.specs.Sum.{sumOf}
+use Rattle.laws.specs.Mesh.{Triangle, sides, total}
+use Rattle.extract.specs.Outcome.{Rooms, Outcome}
+use Rattle.extract.specs.Promise.{Extracts}
+use Rattle.closed.specs.Runs.{runs, Even}
+use Rattle.mesh.specs.Mesh.{trianglesOf}
+use Rattle.closed.specs.Left.{meshLeft, smoothed}
+use Rattle.closed.specs.Shell.{SidesStay, Unmarked, trianglesIn, Closed}
+use Rattle.closed.proofs.Promised.{extract-unmarked, smoothed-unmarked}
+
+module _ (inside : ℕ → Bool) (w : ℕ → ℕ → ℕ) where
+  -- a weight that is nothing where both ends have the value b
+  abbrev Nothing : Bool → Type 0
+  Nothing b = (i j : ℕ) → inside i ≡ b → inside j ≡ b → w i j ≡ 0
+
+  -- the sides of one triangle, all of whose corners are inside or none
+  abbrev threeSides : Triangle → ℕ
+  threeSides t = w (t .one) (t .two) + w (t .two) (t .three) + w (t .three) (t .one)
+
+  three-nothing : (t : Triangle) (b : Bool) → Nothing b → inside (t .one) ≡ b → inside (t .one) ≡ inside (t .two) → inside (t .two) ≡ inside (t .three)
+      → threeSides t ≡ 0
+  three-nothing t b none one two three =
+      let second : inside (t .two) ≡ b = sym two ∙ one in
+      let third : inside (t .three) ≡ b = sym three ∙ second in
+      omega (arith, none (t .one) (t .two) one second, none (t .two) (t .three) second third, none (t .three) (t .one) third one)
+
+  -- outside nothing weighs: the set's triangles weigh what all do
+  all-inside : Nothing false → (ts : List Triangle) → SidesStay inside ts → total w (sides (trianglesIn inside ts)) ≡ total w (sides ts)
+  unfolding total sides sumOf trianglesIn
+  all-inside none [] stay = refl
+  all-inside none (t ∷ ts) stay = go (inside (t .one)) refl (all-inside none ts (stay .1 .1 .1))
+    where
+      go : (b : Bool) → inside (t .one) ≡ b → total w (sides (trianglesIn inside ts)) ≡ total w (sides ts)
+          → total w (sides (cond b (t ∷ trianglesIn inside ts) (trianglesIn inside ts))) ≡ total w (sides (t ∷ ts))
+      go true e later = unfold total sides sumOf in omega (arith, later)
+      go false e later = unfold total sides sumOf in omega (arith, later, three-nothing t false none e (stay .0) (stay .1 .0))
+
+  -- inside nothing weighs: the set's triangles weigh nothing
+  none-inside : Nothing true → (ts : List Triangle) → SidesStay inside ts → total w (sides (trianglesIn inside ts)) ≡ 0
+  unfolding total sides sumOf trianglesIn
+  none-inside none [] stay = refl
+  none-inside none (t ∷ ts) stay = go (inside (t .one)) refl (none-inside none ts (stay .1 .1 .1))
+    where
+      go : (b : Bool) → inside (t .one) ≡ b → total w (sides (trianglesIn inside ts)) ≡ 0
+          → total w (sides (cond b (t ∷ trianglesIn inside ts) (trianglesIn inside ts))) ≡ 0
+      go true e later = unfold total sides sumOf in omega (arith, later, three-nothing t true none e (stay .0) (stay .1 .0))
+      go false e later = later
+
+module _ (inside : ℕ → Bool) (ts : List Triangle) (stay : SidesStay inside ts) where
+  -- an end on the other side of the set's rim than p is not p
+  elsewhere : (b c : Bool) (i p : ℕ) → inside p ≡ b → inside i ≡ c → (b ≡ c → ⊥) → eqb i p ≡ false
+  elsewhere b c i p hp hi differ = ne-eqb i p (λ e. differ (sym hp ∙ ap inside (sym e) ∙ hi))
+
+  from-elsewhere : (b c : Bool) (p q : ℕ) → inside p ≡ b → (b ≡ c → ⊥) → Nothing inside (λ i j. one-if (eqb i p && eqb j q)) c
+  from-elsewhere b c p q h differ i j hi hj = rw (elsewhere b c i p h hi differ)
+
+  to-elsewhere : (b c : Bool) (p q : ℕ) → inside p ≡ b → (b ≡ c → ⊥) → Nothing inside (λ i j. one-if (eqb i q && eqb j p)) c
+  to-elsewhere b c p q h differ i j hi hj = rw (elsewhere b c j p h hj differ) (ap one-if (and-false (eqb i q)))
+
+  -- where the triangles of all run evenly from each point inside, those of the set are closed
+  pub closes : ((p q : ℕ) → inside p ≡ true → Even ts p q) → Closed (trianglesIn inside ts)
+  unfolding runs
+  closes even p q = go (inside p) refl
+    where
+      there : ℕ → ℕ → ℕ
+      there i j = one-if (eqb i p && eqb j q)
+
+      back : ℕ → ℕ → ℕ
+      back i j = one-if (eqb i q && eqb j p)
+
+      go : (b : Bool) → inside p ≡ b → runs (trianglesIn inside ts) p q ≡ runs (trianglesIn inside ts) q p
+      go true h =
+          all-inside inside there (from-elsewhere true false p q h true≢false) ts stay
+          ∙ even p q h
+          ∙ sym (all-inside inside back (to-elsewhere true false p q h true≢false) ts stay)
+      go false h =
+          none-inside inside there (from-elsewhere false true p q h false≢true) ts stay
+          ∙ sym (none-inside inside back (to-elsewhere false true p q h false≢true) ts stay)
+
+-- of a mesh that the extractor left, raw and smoothed
+module _ (nx ny nz grey : ℕ) (samples : List ℕ) (before : Rooms) (after : Outcome) (extracts : Extracts nx ny nz grey samples before after)
+    (none : after .number ≡ 0) (inside : ℕ → Bool) where
+  pub shell-closed : SidesStay inside (trianglesOf (meshLeft after .triangles)) → Unmarked inside (meshLeft after)
+      → Closed (trianglesIn inside (trianglesOf (meshLeft after .triangles)))
+  shell-closed stay unmarked =
+      closes inside (trianglesOf (meshLeft after .triangles)) stay
+      (λ p q h. extract-unmarked nx ny nz grey samples before after extracts none p q (unmarked p h))
+
+  pub smoothed-shell-closed : (k w : ℕ) → let m = smoothed k w (meshLeft after) in
+      SidesStay inside (trianglesOf (m .triangles)) → Unmarked inside m → Closed (trianglesIn inside (trianglesOf (m .triangles)))
+  smoothed-shell-closed k w stay unmarked =
+      closes inside (trianglesOf (smoothed k w (meshLeft after) .triangles)) stay
+      (λ p q h. smoothed-unmarked nx ny nz grey samples before after extracts none k w p q (unmarked p h))

@@ -1,0 +1,1 @@
+// Demand 3's balance, as theorems about the definitions: see specs/ and proofs/. There is no code.
