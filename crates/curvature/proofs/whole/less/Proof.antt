@@ -1,0 +1,21 @@
+-- `curvature::whole::less` meets its contract. Assumes nothing.
+use native.Mathlib.Omega.{arith}
+use lib.IntN.{_-ℤ_}
+use Rattle.curvature.proofs.Signed.{size-less, result-held, result-read}
+use Rattle.curvature.proofs.whole.less.Statement.{statement}
+use Rattle.curvature.proofs.whole.less.Tie as tie
+
+sub-result : tie.Need-sub-result
+sub-result c =
+    let a = c .args .a in
+    let b = c .args .b in
+    result-held _-ℤ_ a b (c .fits .a) (c .fits .b) (omega (arith, size-less a b, c .pre))
+
+returns : tie.Need-returns
+returns c =
+    let a = c .args .a in
+    let b = c .args .b in
+    result-read _-ℤ_ a b (c .fits .a) (c .fits .b) (omega (arith, size-less a b, c .pre))
+
+pub less-spec : {M : Type 1} → statement M
+less-spec = tie.close (tie.spec sub-result returns)

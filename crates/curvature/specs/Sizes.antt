@@ -1,0 +1,22 @@
+-- How large the whole numbers of a triangle may be.
+use Prim.Native.Nat.{ℕ, _*_, _≤_}
+use lib.IntN.{natAbs}
+use Rattle.grid.specs.Limits.{mostCoordinate}
+use Rattle.curvature.specs.declared.sides.Place.{Place}
+use Rattle.curvature.specs.declared.sides.Side.{Side}
+
+-- no coordinate of a place is beyond the limit
+pub record Small (p : Place) : Type 0 where
+  pub x : p .x ≤ mostCoordinate
+  pub y : p .y ≤ mostCoordinate
+  pub z : p .z ≤ mostCoordinate
+
+-- no coordinate of a side is larger than `most` in size
+pub record Within (most : ℕ) (u : Side) : Type 0 where
+  pub x : natAbs (u .x) ≤ most
+  pub y : natAbs (u .y) ≤ most
+  pub z : natAbs (u .z) ≤ most
+
+-- as large as a sum of k products of two coordinates of sides can be
+abbrev pub mostProducts : ℕ → ℕ
+mostProducts k = k * (mostCoordinate * mostCoordinate)
