@@ -6,6 +6,7 @@ use native.Mathlib.Omega.{arith}
 use lib.Dec.{T, ltb, le→leb, lt→ltb}
 use lib.IntN.{ℤ, pos, negsuc, negℤ, natAbs, subℕ, _+ℤ_, _-ℤ_, _*ℤ_}
 use lib.Ieee.{binary64, inFloat}
+use lib.Signed.{mag}
 use mir.Syntax.{w64}
 use mir.Val.{SFits, toZ, ofZ}
 use mir.ValLaws.{toZ-ofZ}
@@ -47,29 +48,32 @@ size-between a zero m la lb = omega arith
 size-between a (suc b) m la lb = size-apart a (suc b) m la lb
 
 -- what is below 2^63 in size, a word of 64 bits holds
-pub held : (a : ℤ) → natAbs a < 2 ^ 63 → SFits w64 a
-held (pos n) h = record { sfits = h }
-held (negsuc n) h = record { sfits = omega arith }
+pub held : (a : ℤ) → natAbs a < 2 ^ 63 → mag a < 2 ^ 63
+held (pos n) h = h
+held (negsuc n) h = omega arith
 
 -- and what it holds is read back
-pub read : (a : ℤ) → natAbs a < 2 ^ 63 → toZ w64 (ofZ w64 a) ≡ a
-read a h = toZ-ofZ w64 a (held a h)
+pub read-back : (a : ℤ) → mag a < 2 ^ 63 → toZ w64 (ofZ w64 a) ≡ a
+read-back a h = toZ-ofZ w64 a (record { sfits = h })
 
 pub exact : (a : ℤ) → natAbs a ≤ 2 ^ 53 → T (inFloat binary64 a)
 unfolding inFloat
 exact (pos n) h = le→leb n (2 ^ 53) h
 exact (negsuc n) h = lt→ltb n (2 ^ 53) (omega arith)
 
--- an operation on two words
-module _ (op : ℤ → ℤ → ℤ) (a b : ℤ) (ha : SFits w64 a) (hb : SFits w64 b) (h : natAbs (op a b) < 2 ^ 63) where
-  read-both : op (toZ w64 (ofZ w64 a)) (toZ w64 (ofZ w64 b)) ≡ op a b
-  read-both = rw (toZ-ofZ w64 a ha, toZ-ofZ w64 b hb)
+-- two words that a function is handed: what is asked of them, and what is learnt of an operation's result
+module _ (a b : ℤ) (ha : mag a < 2 ^ 63) (hb : mag b < 2 ^ 63) where
+  pub asked : (P : ℤ → ℤ → Type 0) → P a b → P (toZ w64 (ofZ w64 a)) (toZ w64 (ofZ w64 b))
+  asked P p = rw (read-back a ha, read-back b hb) p
 
-  pub result-held : SFits w64 (op (toZ w64 (ofZ w64 a)) (toZ w64 (ofZ w64 b)))
-  result-held = rw read-both (held (op a b) h)
+  pub learnt : {r : ℤ} (op : ℤ → ℤ → ℤ) → r ≡ op (toZ w64 (ofZ w64 a)) (toZ w64 (ofZ w64 b)) → r ≡ op a b
+  learnt op e = e ∙ rw (read-back a ha, read-back b hb)
 
-  pub result-read : toZ w64 (ofZ w64 (op (toZ w64 (ofZ w64 a)) (toZ w64 (ofZ w64 b)))) ≡ op a b
-  result-read = rw read-both (toZ-ofZ w64 (op a b) (held (op a b) h))
+  pub result-held : (op : ℤ → ℤ → ℤ) → natAbs (op a b) < 2 ^ 63 → SFits w64 (op (toZ w64 (ofZ w64 a)) (toZ w64 (ofZ w64 b)))
+  result-held op h = asked (λ x y. SFits w64 (op x y)) (record { sfits = held (op a b) h })
+
+  pub result-read : (op : ℤ → ℤ → ℤ) → natAbs (op a b) < 2 ^ 63 → toZ w64 (ofZ w64 (op (toZ w64 (ofZ w64 a)) (toZ w64 (ofZ w64 b)))) ≡ op a b
+  result-read op h = asked (λ x y. toZ w64 (ofZ w64 (op x y)) ≡ op a b) (read-back (op a b) (held (op a b) h))
 
 pub square-is : (a : ℤ) → a *ℤ a ≡ pos (natAbs a * natAbs a)
 square-is (pos a) = refl

@@ -1,26 +1,27 @@
+-- `curvature::sides::dot_at` meets its contract. Assumes nothing.
+use mathlib.Core.Path.{_≡_, sym, _∙_}
 use borrow.Author.Needs.{needs}
+use Rattle.curvature.specs.Sides.{dotAt}
+use Rattle.curvature.proofs.Signed.{read-back}
+use Rattle.curvature.proofs.Bounds.{between-within}
 use Rattle.curvature.proofs.sides.dot_at.Statement.{statement}
 use Rattle.curvature.proofs.sides.dot_at.Tie as tie
-use Rattle.curvature.proofs.sides.dot_at.Reads as reads
-use Rattle.curvature.proofs.sides.dot_at.Lts as lts
-use Rattle.curvature.proofs.sides.dot.Reads as dot-reads
-use Rattle.curvature.proofs.sides.minus.Reads as minus-reads
 
--- src/sides.rt:91:9
 minus-requires : tie.Need-minus-requires
 minus-requires c κs = search needs
 
--- src/sides.rt:91:22
 minus-requires-2 : tie.Need-minus-requires-2
 minus-requires-2 c κs = search needs
 
--- src/sides.rt:91:5
 dot-requires : tie.Need-dot-requires
-dot-requires c κs = ?
+dot-requires c κs =
+    let s = c .before .before in
+    (rw (c .before .minus .ensures) (between-within (s .args .q) (s .args .p) (s .pre .1) (s .pre .0)), rw (c .minus2 .ensures) (between-within (s .args .r) (s .args .p) (s .pre .2) (s .pre .0)))
 
--- src/sides.rt:87:1
 returns : tie.Need-returns
-returns c = ?
+unfolding dotAt
+returns c =
+    read-back (c .dot .result) (c .dot .ok) ∙ c .dot .ensures ∙ rw (c .before .before .minus .ensures, c .before .minus2 .ensures)
 
 pub dot-at-spec : {M : Type 1} → statement M
 dot-at-spec = tie.close (tie.spec minus-requires minus-requires-2 dot-requires returns)

@@ -1,25 +1,43 @@
+-- `curvature::sides::minor` meets its contract. Assumes nothing.
+use mathlib.Core.Path.{_≡_, ap, _∙_, ap₂}
+use Prim.Native.Nat.{_+_, _^_, _<_}
+use native.Mathlib.Omega.{arith}
+use lib.IntN.{natAbs, _-ℤ_}
+use Rattle.curvature.proofs.Signed.{read-back, asked, learnt}
+use Rattle.curvature.proofs.Bounds.{small-product, product-asked, product-learnt}
 use Rattle.curvature.proofs.sides.minor.Statement.{statement}
 use Rattle.curvature.proofs.sides.minor.Tie as tie
-use Rattle.curvature.proofs.sides.minor.Reads as reads
-use Rattle.curvature.proofs.sides.minor.Lts as lts
-use Rattle.curvature.proofs.whole.less.Reads as less-reads
-use Rattle.curvature.proofs.whole.times.Reads as times-reads
 
--- src/sides.rt:62:17
 times-requires : tie.Need-times-requires
-times-requires c κs = ?
+times-requires c κs = product-asked (c .args .a) (c .args .d) (c .pre .0) (c .pre .3)
 
--- src/sides.rt:62:37
 times-requires-2 : tie.Need-times-requires-2
-times-requires-2 c κs = ?
+times-requires-2 c κs = let s = c .before in product-asked (s .args .b) (s .args .c) (s .pre .1) (s .pre .2)
 
--- src/sides.rt:62:5
 less-requires : tie.Need-less-requires
-less-requires c κs = ?
+less-requires c κs =
+    let s = c .before .before in
+    let one = c .before .times in
+    let two = c .times2 in
+    asked (one .result) (two .result) (one .ok) (two .ok) (λ x y. natAbs x + natAbs y < 2 ^ 63)
+    (omega (
+      arith,
+      ap natAbs (product-learnt (s .args .a) (s .args .d) (s .pre .0) (s .pre .3) (one .ensures)),
+      ap natAbs (product-learnt (s .args .b) (s .args .c) (s .pre .1) (s .pre .2) (two .ensures)),
+      small-product (s .args .a) (s .args .d) (s .pre .0) (s .pre .3),
+      small-product (s .args .b) (s .args .c) (s .pre .1) (s .pre .2),
+    ))
 
--- src/sides.rt:58:1
 returns : tie.Need-returns
-returns c = ?
+returns c =
+    let s = c .before .before .before in
+    let one = c .before .before .times in
+    let two = c .before .times2 in
+    let first = product-learnt (s .args .a) (s .args .d) (s .pre .0) (s .pre .3) (one .ensures) in
+    let second = product-learnt (s .args .b) (s .args .c) (s .pre .1) (s .pre .2) (two .ensures) in
+    read-back (c .less .result) (c .less .ok)
+    ∙ learnt (one .result) (two .result) (one .ok) (two .ok) _-ℤ_ (c .less .ensures)
+    ∙ ap₂ _-ℤ_ first second
 
 pub minor-spec : {M : Type 1} → statement M
 minor-spec = tie.close (tie.spec times-requires times-requires-2 less-requires returns)

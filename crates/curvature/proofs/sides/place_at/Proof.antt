@@ -1,3 +1,5 @@
+use mathlib.Core.Path.{refl}
+use Rattle.curvature.specs.Sides.{placeOf}
 use borrow.Author.Needs.{needs}
 use Rattle.curvature.proofs.sides.place_at.Statement.{statement}
 use Rattle.curvature.proofs.sides.place_at.Tie as tie
@@ -42,7 +44,8 @@ shared-slice-read-t14 c = search needs
 
 -- src/sides.rt:24:1
 returns : tie.Need-returns
-returns c = ?
+unfolding placeOf
+returns c = refl
 
 pub place-at-spec : {M : Type 1} → statement M
 place-at-spec =

@@ -18,14 +18,14 @@ sub-result c =
     let a = c .args .a in
     let b = c .args .b in
     let h = size-between a b (2 ^ 32) (omega arith) (omega arith) in
-    result-held _-ℤ_ (pos a) (pos b) (held (pos a) (omega arith)) (held (pos b) (omega arith)) (omega (arith, h))
+    result-held (pos a) (pos b) (held (pos a) (omega arith)) (held (pos b) (omega arith)) _-ℤ_ (omega (arith, h))
 
 returns : tie.Need-returns
 returns c =
     let a = c .args .a in
     let b = c .args .b in
     let h = size-between a b (2 ^ 32) (omega arith) (omega arith) in
-    result-read _-ℤ_ (pos a) (pos b) (held (pos a) (omega arith)) (held (pos b) (omega arith)) (omega (arith, h))
+    result-read (pos a) (pos b) (held (pos a) (omega arith)) (held (pos b) (omega arith)) _-ℤ_ (omega (arith, h))
 
 pub apart-spec : {M : Type 1} → statement M
 apart-spec = tie.close (tie.spec cast-result cast-result-2 sub-result returns)

@@ -1,13 +1,11 @@
 -- `curvature::whole::float_of` meets its contract. Assumes nothing.
 use borrow.Author.Needs.{needs}
-use mir.Syntax.{w64}
-use mir.ValLaws.{toZ-ofZ}
-use Rattle.curvature.proofs.Signed.{exact}
+use Rattle.curvature.proofs.Signed.{exact, read-back}
 use Rattle.curvature.proofs.whole.float_of.Statement.{statement}
 use Rattle.curvature.proofs.whole.float_of.Tie as tie
 
 int-to-float-result : tie.Need-int-to-float-result
-int-to-float-result c = rw (toZ-ofZ w64 (c .before .args .a) (c .before .fits .a)) (exact (c .before .args .a) (c .before .pre))
+int-to-float-result c = rw (read-back (c .before .args .a) (c .before .fits .a .sfits)) (exact (c .before .args .a) (c .before .pre))
 
 returns : tie.Need-returns
 returns c = search needs

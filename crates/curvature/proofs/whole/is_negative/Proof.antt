@@ -4,9 +4,8 @@ use lib.IntN.{ℤ, pos, negsuc}
 use lib.Signed.{ltZ}
 use native.Mathlib.Omega.{arith}
 use borrow.Author.Tests.{le-ltb}
-use mir.Syntax.{w64}
-use mir.ValLaws.{toZ-ofZ}
 use Rattle.curvature.specs.Whole.{negative}
+use Rattle.curvature.proofs.Signed.{read-back}
 use Rattle.curvature.proofs.whole.is_negative.Statement.{statement}
 use Rattle.curvature.proofs.whole.is_negative.Tie as tie
 
@@ -16,7 +15,7 @@ below-zero (pos n) = le-ltb n 0 (omega arith)
 below-zero (negsuc n) = refl
 
 returns : tie.Need-returns
-returns c = rw (toZ-ofZ w64 (c .args .a) (c .fits .a)) (below-zero (c .args .a))
+returns c = rw (read-back (c .args .a) (c .fits .a .sfits)) (below-zero (c .args .a))
 
 pub is-negative-spec : {M : Type 1} → statement M
 is-negative-spec = tie.close (tie.spec returns)

@@ -9,17 +9,17 @@ use Rattle.curvature.proofs.whole.square.Tie as tie
 mul-result : tie.Need-mul-result
 mul-result c =
     let a = c .args .a in
-    result-held _*ℤ_ a a (c .fits .a) (c .fits .a) (omega (arith, size-times a a, c .pre))
+    result-held a a (c .fits .a .sfits) (c .fits .a .sfits) _*ℤ_ (omega (arith, size-times a a, c .pre))
 
 cast-result : tie.Need-cast-result
 cast-result c =
     let a = c .args .a in
-    rw (result-read _*ℤ_ a a (c .fits .a) (c .fits .a) (omega (arith, size-times a a, c .pre)) ∙ square-is a) (tt, record { fits = omega (arith, c .pre) })
+    rw (result-read a a (c .fits .a .sfits) (c .fits .a .sfits) _*ℤ_ (omega (arith, size-times a a, c .pre)) ∙ square-is a) (tt, record { fits = omega (arith, c .pre) })
 
 returns : tie.Need-returns
 returns c =
     let a = c .args .a in
-    rw (result-read _*ℤ_ a a (c .fits .a) (c .fits .a) (omega (arith, size-times a a, c .pre)) ∙ square-is a)
+    rw (result-read a a (c .fits .a .sfits) (c .fits .a .sfits) _*ℤ_ (omega (arith, size-times a a, c .pre)) ∙ square-is a)
 
 pub square-spec : {M : Type 1} → statement M
 square-spec = tie.close (tie.spec mul-result cast-result returns)
