@@ -12,7 +12,8 @@ use Rattle.root.specs.Root.{windowTo}
 use Rattle.curvature.specs.declared.sides.Place.{Place}
 use Rattle.curvature.specs.declared.sides.Side.{Side}
 use Rattle.curvature.specs.Sides.{between, dot, cross, squared, dotAt, oppositeAt, crossAt}
-use Rattle.curvature.specs.Sizes.{Small, Within, mostProducts}
+use Rattle.curvature.specs.Sizes.{Small, Within, SmallDots, mostProducts}
+use Rattle.curvature.specs.Corners.{dotsOf}
 use Rattle.curvature.proofs.Signed.{held, read-back, asked, learnt, size-times, size-plus, size-less, size-between}
 
 pub small-sizes : (a b : ℤ) → natAbs a ≤ mostCoordinate → natAbs b ≤ mostCoordinate → natAbs a * natAbs b ≤ mostProducts 1
@@ -93,3 +94,7 @@ module _ (p q r : Place) (hp : Small p) (hq : Small q) (hr : Small r) where
   unfolding crossAt
   cross-at-small =
       omega (arith, squared-small (mostProducts 2) (cross (between q p) (between r p)) (cross-within (between q p) (between r p) (between-within q p hq hp) (between-within r p hr hp)))
+
+pub dots-small : (p q r : Place) → Small p → Small q → Small r → SmallDots (dotsOf p q r)
+unfolding dotsOf
+dots-small p q r hp hq hr = record { one = dot-at-small p q r hp hq hr; two = dot-at-small q r p hq hr hp; three = dot-at-small r p q hr hp hq }

@@ -1,2 +1,4 @@
 pub mod Signed
 pub mod Bounds
+pub mod Floats
+pub mod Ways

@@ -4,6 +4,7 @@ use lib.IntN.{natAbs}
 use Rattle.grid.specs.Limits.{mostCoordinate}
 use Rattle.curvature.specs.declared.sides.Place.{Place}
 use Rattle.curvature.specs.declared.sides.Side.{Side}
+use Rattle.curvature.specs.declared.corners.Dots.{Dots}
 
 -- no coordinate of a place is beyond the limit
 pub record Small (p : Place) : Type 0 where
@@ -20,3 +21,9 @@ pub record Within (most : ℕ) (u : Side) : Type 0 where
 -- as large as a sum of k products of two coordinates of sides can be
 abbrev pub mostProducts : ℕ → ℕ
 mostProducts k = k * (mostCoordinate * mostCoordinate)
+
+-- no d is larger than that
+pub record SmallDots (d : Dots) : Type 0 where
+  pub one : natAbs (d .one) ≤ mostProducts 3
+  pub two : natAbs (d .two) ≤ mostProducts 3
+  pub three : natAbs (d .three) ≤ mostProducts 3

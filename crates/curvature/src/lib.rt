@@ -1,5 +1,8 @@
 // Areas and mean curvature of a mesh, and one point's answer read back.
+mod answers;
+mod corners;
 mod sides;
+mod vectors;
 mod whole;
 
 pub fn nothing() -> u32 {

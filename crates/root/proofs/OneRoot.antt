@@ -77,3 +77,9 @@ root-of n positive small =
 
 pub is-root-of : (n s r : ℕ) → 0 < n → n < 2 ^ windowTo → Rooted n s r → (s ≡ scaleOf n) × (r ≡ rootOf n)
 is-root-of n s r positive small h = one-root n s (scaleOf n) r (rootOf n) h (root-of n positive small)
+
+-- and the root has 30 digits
+pub root-most : (n s r : ℕ) → Rooted n s r → r < 2 ^ 30
+root-most n s r h =
+    lt-of-not-le
+    (λ large. absurd (omega (arith, mul-le-mul {n₁ = 2 ^ 30} {m₁ = 2 ^ 30} {n₂ = r} {m₂ = r} large large, h .root .not-above, h .window .most)))

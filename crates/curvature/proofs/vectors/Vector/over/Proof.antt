@@ -1,0 +1,14 @@
+use mathlib.Core.Path.{refl}
+use Rattle.curvature.specs.Vectors.{over}
+use Rattle.curvature.proofs.vectors.Vector.over.Statement.{statement}
+use Rattle.curvature.proofs.vectors.Vector.over.Tie as tie
+use Rattle.curvature.proofs.vectors.Vector.over.Reads as reads
+use Rattle.curvature.proofs.vectors.Vector.over.Lts as lts
+
+-- src/vectors.rt:61:5
+returns : tie.Need-returns
+unfolding over
+returns c = refl
+
+pub over-spec : {M : Type 1} → statement M
+over-spec = tie.close (tie.spec returns)
