@@ -1,7 +1,7 @@
 -- A point's answer: open, flat or bent (document 01, "Areas and mean curvature"), and how one is read back.
 use mathlib.Core.List.{List, [], _∷_}
 use mathlib.Core.Bool.{cond, _&&_, not}
-use Prim.Native.Nat.{ℕ, _*_, _+_}
+use Prim.Native.Nat.{ℕ, _*_}
 use lib.Dec.{eqb, leb, ltb}
 use lib.IntN.{pos}
 use lib.ListN.{length, getD}
@@ -11,7 +11,7 @@ use Rattle.curvature.specs.declared.answers.Answer.{Answer}
 use Rattle.curvature.specs.declared.answers.Answer.the-variants.{Open, Flat, Bent}
 use Rattle.curvature.specs.declared.answers.Reading.{Reading}
 use Rattle.curvature.specs.declared.answers.Reading.the-variants.{Answered, Refused}
-use Rattle.curvature.specs.Vectors.{plusZero, vector, noVector, whole, over}
+use Rattle.curvature.specs.Vectors.{plusZero, noVector, vectorAt, whole, over}
 use Rattle.curvature.specs.Sums.{Sum}
 
 -- mark 1 is open, else an area of +0.0 or -0.0 is flat, else bent
@@ -43,10 +43,6 @@ numberOf (Refused n) = n
 unfoldable pub holdsOf : Reading → List (List Float)
 holdsOf (Answered a) = valuesOf a ∷ []
 holdsOf (Refused n) = []
-
--- three numbers of a list, from a place on
-abbrev pub vectorAt : List Float → ℕ → Vector
-vectorAt xs at = vector (getD xs at nan) (getD xs (at + 1) nan) (getD xs (at + 2) nan)
 
 module _ (marks : List ℕ) (areas vectors : List Float) (point : ℕ) where
   -- 6 unless there are V areas and 3V numbers; 14 unless the point is below V; 9 for that point's mark; else 0

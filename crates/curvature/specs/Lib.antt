@@ -6,6 +6,7 @@ pub mod Sizes
 pub mod Vectors
 pub mod Corners
 pub mod Sums
+pub mod Rooms
 pub mod Answers
 pub mod Outcome
 pub mod Promise

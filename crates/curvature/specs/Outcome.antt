@@ -8,8 +8,8 @@ use lib.Ieee.{Float}
 use Rattle.laws.specs.Range.{joinTo}
 use Rattle.mesh.specs.Mesh.{triangleCount}
 use Rattle.mesh.specs.Check.{meshNumber}
-use Rattle.curvature.specs.declared.vectors.Vector.{Vector}
 use Rattle.curvature.specs.declared.answers.Answer.{Answer}
+use Rattle.curvature.specs.Vectors.{numbersOf}
 use Rattle.curvature.specs.Sums.{Sum, start, sumAfter}
 use Rattle.curvature.specs.Answers.{answer, storedVector}
 
@@ -17,10 +17,6 @@ pub record Outcome : Type 0 where
   pub number : ℕ
   pub areas : List Float
   pub vectors : List Float
-
--- a vector's three numbers in a list
-abbrev pub numbersOf : Vector → List Float
-numbersOf v = v .x ∷ v .y ∷ v .z ∷ []
 
 module _ (points triangles marks : List ℕ) where
   -- a point's sums over the whole mesh, and its answer

@@ -21,13 +21,14 @@ pub record Sum : Type 0 where
 abbrev pub start : Sum
 start = record { area = plusZero; vector = noVector }
 
--- what corner p of p, q, r adds: its share; first cot_k·(p - q), then cot_j·(p - r), with j the corner q and k the corner r
+-- the running vector at corner p of p, q, r: first adds cot_k·(p - q), then cot_j·(p - r), with j the corner q and k the corner r
+unfoldable pub addSides : Place → Place → Place → Float → Float → Vector → Vector
+addSides p q r cotj cotk v = plus (plus v (times cotk (ofSide (between p q)))) (times cotj (ofSide (between p r)))
+
+-- what corner p adds: its share, and to the vector as above
 unfoldable pub addCorner : Place → Place → Place → Float → Float → Float → Sum → Sum
 addCorner p q r share cotj cotk s =
-    record {
-      area = add binary64 (s .area) share;
-      vector = plus (plus (s .vector) (times cotk (ofSide (between p q)))) (times cotj (ofSide (between p r)));
-    }
+    record { area = add binary64 (s .area) share; vector = addSides p q r cotj cotk (s .vector) }
 
 -- only the point at that corner takes it
 unfoldable pub atPoint : ℕ → ℕ → (Sum → Sum) → Sum → Sum

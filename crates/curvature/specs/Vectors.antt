@@ -1,7 +1,9 @@
 -- Numbers and vectors in binary64, each operation rounded once.
-use Prim.Native.Nat.{ℕ}
+use mathlib.Core.List.{List, [], _∷_}
+use Prim.Native.Nat.{ℕ, _+_}
+use lib.ListN.{getD, set}
 use lib.IntN.{ℤ, pos}
-use lib.Ieee.{Float, fin, binary64, ofInt, add, mul, div}
+use lib.Ieee.{Float, nan, fin, binary64, ofInt, add, mul, div}
 use mathlib.Core.Bool.{false}
 use Rattle.curvature.specs.declared.sides.Side.{Side}
 use Rattle.curvature.specs.declared.vectors.Vector.{Vector}
@@ -32,3 +34,14 @@ times k v = vector (mul binary64 k (v .x)) (mul binary64 k (v .y)) (mul binary64
 
 unfoldable pub over : Vector → Float → Vector
 over v k = vector (div binary64 (v .x) k) (div binary64 (v .y) k) (div binary64 (v .z) k)
+
+-- a vector's three numbers in a list
+abbrev pub numbersOf : Vector → List Float
+numbersOf v = v .x ∷ v .y ∷ v .z ∷ []
+
+-- the three numbers that stand in a room from a place on, and the room with three others put there
+unfoldable pub vectorAt : List Float → ℕ → Vector
+vectorAt room at = vector (getD room at nan) (getD room (at + 1) nan) (getD room (at + 2) nan)
+
+unfoldable pub putVector : List Float → ℕ → Vector → List Float
+putVector room at v = set (set (set room at (v .x)) (at + 1) (v .y)) (at + 2) (v .z)

@@ -2,6 +2,7 @@
 mod answers;
 mod corners;
 mod sides;
+mod sums;
 mod vectors;
 mod whole;
 

@@ -1,11 +1,10 @@
 // Vectors of three binary64 numbers, added and scaled by value.
 ghost use mathlib.Core.Path.{_≡_};
-ghost use Prim.Native.Nat.{ℕ, _+_, _*_, _<_};
-ghost use lib.ListN.{length, set};
+ghost use Prim.Native.Nat.{_+_, _<_};
+ghost use lib.ListN.{length};
 ghost use Rattle.grid.specs.Limits.{mostCoordinate};
 ghost use Rattle.curvature.specs.Sizes.{Within};
-ghost use Rattle.curvature.specs.Vectors.{noVector, ofSide, plus as plusOf, times as timesOf, over as overOf};
-ghost use Rattle.curvature.specs.Answers.{vectorAt};
+ghost use Rattle.curvature.specs.Vectors.{noVector, ofSide, plus as plusOf, times as timesOf, over as overOf, vectorAt, putVector};
 use crate::sides::Side;
 use crate::whole;
 
@@ -83,7 +82,7 @@ pub fn vector_at(room: &[f64], at: usize) -> Vector
 
 pub fn put_vector(room: &mut [f64], at: usize, v: Vector)
     requires { ⌜ at + 2 < length (now room) ⌝ }
-    ensures { λ _. ⌜ now (room .exit) ≡ set (set (set (now (room .entry)) at (v .x)) (at + 1) (v .y)) (at + 2) (v .z) ⌝ }
+    ensures { λ _. ⌜ now (room .exit) ≡ putVector (now (room .entry)) at v ⌝ }
 {
     room[at] = v.x;
     room[at + 1] = v.y;

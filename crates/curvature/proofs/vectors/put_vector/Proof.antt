@@ -1,3 +1,5 @@
+use mathlib.Core.Path.{refl}
+use Rattle.curvature.specs.Vectors.{putVector}
 use native.Mathlib.Omega.{arith}
 use lib.ListN.{length-set}
 use borrow.Author.Needs.{needs}
@@ -44,7 +46,8 @@ same-length c = search needs
 
 -- src/vectors.rt:84:1
 returns : tie.Need-returns
-returns c = search needs
+unfolding putVector
+returns c = refl
 
 pub put-vector-spec : {M : Type 1} → statement M
 put-vector-spec =

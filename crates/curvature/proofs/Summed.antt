@@ -1,0 +1,47 @@
+-- What a triangle adds to the sums of a point, from the parts that are worked out on the way.
+use mathlib.Core.Path.{_≡_, refl, sym, ap, _∙_}
+use mathlib.Core.Bool.{true, false}
+use mathlib.Core.List.{List}
+use Prim.Native.Nat.{ℕ, zero, suc, _+_, _*_, _≤_, _<_}
+use native.Mathlib.Numerals.{add-one}
+use native.Mathlib.Omega.{arith}
+use lib.Dec.{eqb}
+use lib.Ieee.{Float}
+use borrow.Author.Tests.{eq-eqb, ne-eqb}
+use Rattle.laws.specs.Mesh.{Triangle, triangle}
+use Rattle.mesh.specs.Mesh.{triangleAt}
+use Rattle.curvature.specs.declared.sides.Place.{Place}
+use Rattle.curvature.specs.declared.corners.Dots.{Dots}
+use Rattle.curvature.specs.declared.corners.Corners.{Corners}
+use Rattle.curvature.specs.Sides.{placeOf, crossAt}
+use Rattle.curvature.specs.Corners.{dotsOf, squaresOf, doubleArea, cotangents, shares}
+use Rattle.curvature.specs.Sums.{Sum, atPoint, addCorner, addCorners, addPlaces, addTriangle, sumAfter}
+
+pub places-add : (t : Triangle) (p q r : Place) (n : ℕ) (double : Float) (d : Dots) (l cot share : Corners) (x : ℕ) (s : Sum) → n ≡ crossAt p q r → double ≡ doubleArea n → d ≡ dotsOf p q r
+    → cot ≡ cotangents d double → l ≡ squaresOf p q r → share ≡ shares d l cot double → addCorners t p q r share cot x s ≡ addPlaces t p q r x s
+unfolding addPlaces
+places-add t p q r n double d l cot share x s en ed edots ec el es = cc
+
+-- the corners one after the other
+pub corners-add : (t : Triangle) (p q r : Place) (share cot : Corners) (x : ℕ) (s one two three : Sum)
+    → one ≡ atPoint (t .one) x (addCorner p q r (share .one) (cot .two) (cot .three)) s
+    → two ≡ atPoint (t .two) x (addCorner q r p (share .two) (cot .three) (cot .one)) one
+    → three ≡ atPoint (t .three) x (addCorner r p q (share .three) (cot .one) (cot .two)) two → three ≡ addCorners t p q r share cot x s
+unfolding addCorners
+corners-add t p q r share cot x s one two three e f g = cc
+
+-- a triangle whose N is 0, and one whose N is not
+module _ (points : List ℕ) (t : Triangle) (x : ℕ) (s : Sum) where
+  pub nothing-added : crossAt (placeOf points (t .one)) (placeOf points (t .two)) (placeOf points (t .three)) ≡ 0 → s ≡ addTriangle points t x s
+  unfolding addTriangle
+  nothing-added h = rw (eq-eqb _ _ h)
+
+  pub something-added : (crossAt (placeOf points (t .one)) (placeOf points (t .two)) (placeOf points (t .three)) ≡ 0 → ⊥)
+      → addPlaces t (placeOf points (t .one)) (placeOf points (t .two)) (placeOf points (t .three)) x s ≡ addTriangle points t x s
+  unfolding addTriangle
+  something-added h = rw (ne-eqb _ _ h)
+
+-- one triangle more
+pub sum-next : (points triangles : List ℕ) (x n : ℕ) (s : Sum) → sumAfter points triangles x (n + 1) s ≡ addTriangle points (triangleAt triangles n) x (sumAfter points triangles x n s)
+unfolding sumAfter
+sum-next points triangles x n s = rw (add-one)
