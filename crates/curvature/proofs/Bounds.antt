@@ -1,17 +1,24 @@
 -- How large the whole numbers of a triangle are.
 use mathlib.Core.Path.{_≡_, _∙_}
+use mathlib.Core.Bool.{true}
+use mathlib.Core.List.{List}
 use Prim.Native.Nat.{ℕ, _+_, _*_, _^_, _≤_, _<_}
 use native.Mathlib.Nat.{mul-le-mul}
 use native.Mathlib.Omega.{arith}
+use lib.Dec.{leb}
+use lib.ListN.{length, getD}
 use lib.IntN.{ℤ, natAbs, _+ℤ_, _-ℤ_, _*ℤ_}
 use lib.Signed.{mag}
 use mir.Syntax.{w64}
 use mir.Val.{toZ, ofZ}
+use borrow.Author.Tests.{leb-true}
+use Rattle.laws.proofs.Tests.{all-at}
 use Rattle.grid.specs.Limits.{mostCoordinate}
+use Rattle.mesh.specs.Check.{allWithin}
 use Rattle.root.specs.Root.{windowTo}
 use Rattle.curvature.specs.declared.sides.Place.{Place}
 use Rattle.curvature.specs.declared.sides.Side.{Side}
-use Rattle.curvature.specs.Sides.{between, dot, cross, squared, dotAt, oppositeAt, crossAt}
+use Rattle.curvature.specs.Sides.{placeOf, between, dot, cross, squared, dotAt, oppositeAt, crossAt}
 use Rattle.curvature.specs.Sizes.{Small, Within, SmallDots, mostProducts}
 use Rattle.curvature.specs.Corners.{dotsOf}
 use Rattle.curvature.proofs.Signed.{held, read-back, asked, learnt, size-times, size-plus, size-less, size-between}
@@ -98,3 +105,17 @@ module _ (p q r : Place) (hp : Small p) (hq : Small q) (hr : Small r) where
 pub dots-small : (p q r : Place) → Small p → Small q → Small r → SmallDots (dotsOf p q r)
 unfolding dotsOf
 dots-small p q r hp hq hr = record { one = dot-at-small p q r hp hq hr; two = dot-at-small q r p hq hr hp; three = dot-at-small r p q hr hp hq }
+
+-- the places of a mesh that passed the check
+coordinate-small : (points : List ℕ) (k : ℕ) → allWithin mostCoordinate points ≡ true → k < length points → getD points k 0 ≤ mostCoordinate
+unfolding allWithin
+coordinate-small points k h l = leb-true _ _ (all-at (length points) (λ i. leb (getD points i 0) mostCoordinate) h k l)
+
+pub place-small : (points : List ℕ) (p : ℕ) → allWithin mostCoordinate points ≡ true → 3 * p + 2 < length points → Small (placeOf points p)
+unfolding placeOf
+place-small points p h l =
+    record {
+      x = coordinate-small points (3 * p) h (omega arith);
+      y = coordinate-small points (3 * p + 1) h (omega arith);
+      z = coordinate-small points (3 * p + 2) h l;
+    }

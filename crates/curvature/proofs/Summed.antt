@@ -5,11 +5,14 @@ use mathlib.Core.List.{List}
 use Prim.Native.Nat.{ℕ, zero, suc, _+_, _*_, _≤_, _<_}
 use native.Mathlib.Numerals.{add-one}
 use native.Mathlib.Omega.{arith}
-use lib.Dec.{eqb}
+use lib.Dec.{ltb}
+use lib.ListN.{getD}
 use lib.Ieee.{Float}
-use borrow.Author.Tests.{eq-eqb, ne-eqb}
+use borrow.Author.Tests.{eq-eqb, ne-eqb, ltb-true}
+use Rattle.laws.proofs.Tests.{both, all-at}
 use Rattle.laws.specs.Mesh.{Triangle, triangle}
-use Rattle.mesh.specs.Mesh.{triangleAt}
+use Rattle.mesh.specs.Mesh.{triangleAt, triangleCount}
+use Rattle.mesh.specs.Check.{namesThree, trianglesFit}
 use Rattle.curvature.specs.declared.sides.Place.{Place}
 use Rattle.curvature.specs.declared.corners.Dots.{Dots}
 use Rattle.curvature.specs.declared.corners.Corners.{Corners}
@@ -30,6 +33,13 @@ pub corners-add : (t : Triangle) (p q r : Place) (share cot : Corners) (x : ℕ)
 unfolding addCorners
 corners-add t p q r share cot x s one two three e f g = cc
 
+-- from the places that were read
+pub cross-of : {n : ℕ} {p q r p' q' r' : Place} → n ≡ crossAt p q r → p ≡ p' → q ≡ q' → r ≡ r' → n ≡ crossAt p' q' r'
+cross-of h a b c = cc
+
+pub same-places : (t : Triangle) (x : ℕ) (s : Sum) {p q r p' q' r' : Place} → p ≡ p' → q ≡ q' → r ≡ r' → addPlaces t p q r x s ≡ addPlaces t p' q' r' x s
+same-places t x s a b c = cc
+
 -- a triangle whose N is 0, and one whose N is not
 module _ (points : List ℕ) (t : Triangle) (x : ℕ) (s : Sum) where
   pub nothing-added : crossAt (placeOf points (t .one)) (placeOf points (t .two)) (placeOf points (t .three)) ≡ 0 → s ≡ addTriangle points t x s
@@ -45,3 +55,28 @@ module _ (points : List ℕ) (t : Triangle) (x : ℕ) (s : Sum) where
 pub sum-next : (points triangles : List ℕ) (x n : ℕ) (s : Sum) → sumAfter points triangles x (n + 1) s ≡ addTriangle points (triangleAt triangles n) x (sumAfter points triangles x n s)
 unfolding sumAfter
 sum-next points triangles x n s = rw (add-one)
+
+-- the sums so far, with the next triangle added at its place in the list
+pub sum-more : (points triangles : List ℕ) (x i at : ℕ) (s now after : Sum) → at ≡ 3 * i → now ≡ sumAfter points triangles x i s
+    → after ≡ addTriangle points (triangle (getD triangles at 0) (getD triangles (at + 1) 0) (getD triangles (at + 2) 0)) x now → after ≡ sumAfter points triangles x (i + 1) s
+sum-more points triangles x i at s now after place so-far added = rw (sum-next, sym so-far, sym place) added
+
+-- a triangle of a checked list names points below V
+pub record Named (triangles : List ℕ) (v at : ℕ) : Type 0 where
+  pub one : getD triangles at 0 < v
+  pub two : getD triangles (at + 1) 0 < v
+  pub three : getD triangles (at + 2) 0 < v
+
+named-by : (v : ℕ) (t : Triangle) → namesThree v t ≡ true → (t .one < v) × (t .two < v) × (t .three < v)
+unfolding namesThree
+named-by v t h =
+    let a = both (ltb (t .one) v) _ h in
+    let b = both (ltb (t .two) v) _ (a .1) in
+    let c = both (ltb (t .three) v) _ (b .1) in
+    (ltb-true (t .one) v (a .0), ltb-true (t .two) v (b .0), ltb-true (t .three) v (c .0))
+
+pub named : (triangles : List ℕ) (v i at : ℕ) → trianglesFit triangles v ≡ true → i < triangleCount triangles → at ≡ 3 * i → Named triangles v at
+unfolding trianglesFit
+named triangles v i at h l place =
+    let n = named-by v (triangleAt triangles i) (all-at (triangleCount triangles) (λ k. namesThree v (triangleAt triangles k)) h i l) in
+    rw place (record { one = n .0; two = n .1; three = n .2 })

@@ -1,3 +1,12 @@
+-- `curvature::sums::add_triangles` meets its contract: each point's sums are those after the triangles passed. Assumes nothing.
+use mathlib.Core.Path.{_≡_, refl, sym, _∙_}
+use Prim.Native.Nat.{ℕ, _+_, _*_, _-_, _≤_, _<_}
+use native.Mathlib.Omega.{arith}
+use lib.ListN.{length, getD}
+use Rattle.mesh.specs.Mesh.{triangleCount}
+use Rattle.curvature.specs.Sums.{sumAfter}
+use Rattle.curvature.specs.Rooms.{sumAt, RoomsFit}
+use Rattle.curvature.proofs.Summed.{Named, named, sum-more}
 use Rattle.curvature.proofs.sums.add_triangles.Statement.{statement}
 use Rattle.curvature.proofs.sums.add_triangles.Tie as tie
 use Rattle.curvature.proofs.sums.add_triangles.Reads as reads
@@ -5,90 +14,127 @@ use Rattle.curvature.proofs.sums.add_triangles.Lts as lts
 use Rattle.curvature.proofs.sums.add_triangle.Reads as add-triangle-reads
 
 abbrev Inv-loop : tie.InvT-loop
-Inv-loop points triangles areas₀ vectors₀ count i₀ at₀ areas vectors i at = ?
+Inv-loop points triangles areas₀ vectors₀ count i₀ at₀ areas vectors i at =
+    (i ≤ triangleCount triangles)
+    × (at ≡ 3 * i)
+    × (length areas ≡ length areas₀)
+    × (length vectors ≡ length vectors₀)
+    × ((x : ℕ) → sumAt areas vectors x ≡ sumAfter points triangles x i (sumAt areas₀ vectors₀ x))
 
 abbrev μ-loop : tie.MeasureT-loop
-μ-loop points triangles areas₀ vectors₀ count i₀ at₀ areas vectors i at = ?
+μ-loop points triangles areas₀ vectors₀ count i₀ at₀ areas vectors i at = triangleCount triangles - i
+
+-- in a turn the triangle names points of the mesh
+names : (c : tie.In-loop Inv-loop μ-loop) → Named (c .before .before .before .before .before .before .args .triangles .now) (length (c .before .before .before .before .before .before .args .areas .now)) (c .before .loop .at)
+names c =
+    let s = c .before .before .before .before .before .before in
+    let l = c .before .loop in
+    named (s .args .triangles .now) (length (s .args .areas .now)) (l .i) (l .at) (s .pre .1) (omega arith) (l .inv .1)
 
 -- src/sums.rt:127:5
 loop-holds : tie.Need-loop-holds Inv-loop μ-loop
-loop-holds c = ?
+unfolding sumAfter
+loop-holds c = (omega arith, omega arith, refl, refl, λ x. refl)
 
 -- src/sums.rt:128:17
 mul-a : tie.Need-mul-a Inv-loop μ-loop
-mul-a c = ?
+mul-a c = omega arith
 
 -- src/sums.rt:128:17
 shared-slice-read-a : tie.Need-shared-slice-read-a Inv-loop μ-loop
-shared-slice-read-a c = ?
+shared-slice-read-a c = omega arith
 
 -- src/sums.rt:128:17
 cast-a : tie.Need-cast-a Inv-loop μ-loop
-cast-a c = ?
+cast-a c = omega (arith, c .shared-slice-known3 .given (c .before .before .loop .at))
 
 -- src/sums.rt:129:27
 add-b : tie.Need-add-b Inv-loop μ-loop
-add-b c = ?
+add-b c = omega arith
 
 -- src/sums.rt:129:17
 mul-b : tie.Need-mul-b Inv-loop μ-loop
-mul-b c = ?
+mul-b c = omega arith
 
 -- src/sums.rt:129:17
 shared-slice-read-b : tie.Need-shared-slice-read-b Inv-loop μ-loop
-shared-slice-read-b c = ?
+shared-slice-read-b c = omega arith
 
 -- src/sums.rt:129:17
 cast-b : tie.Need-cast-b Inv-loop μ-loop
-cast-b c = ?
+cast-b c = omega (arith, c .shared-slice-known4 .given (c .before .before .before .loop .at + 1))
 
 -- src/sums.rt:130:27
 add-c : tie.Need-add-c Inv-loop μ-loop
-add-c c = ?
+add-c c = omega arith
 
 -- src/sums.rt:130:17
 mul-c : tie.Need-mul-c Inv-loop μ-loop
-mul-c c = ?
+mul-c c = omega arith
 
 -- src/sums.rt:130:17
 shared-slice-read-c : tie.Need-shared-slice-read-c Inv-loop μ-loop
-shared-slice-read-c c = ?
+shared-slice-read-c c = omega arith
 
 -- src/sums.rt:130:17
 cast-c : tie.Need-cast-c Inv-loop μ-loop
-cast-c c = ?
+cast-c c = omega (arith, c .shared-slice-known5 .given (c .before .before .before .before .loop .at + 2))
 
 -- src/sums.rt:131:9
 add-triangle-requires : tie.Need-add-triangle-requires Inv-loop μ-loop
-add-triangle-requires c κs = ?
+add-triangle-requires c κs = 
+    let s = c .before .before .before .before .before .before .before .before .before .before .before in
+    let l = c .before .before .before .before .before .before .loop in
+    let n = names (c .before .before .before .before .before) in
+    let fit = s .pre .0 in (
+      (omega (arith, n .one, l .inv .2), omega (arith, n .two, l .inv .2), omega (arith, n .three, l .inv .2)),
+      record {
+        points-fit = omega (arith, fit .points-fit, l .inv .2);
+        vectors-fit = omega (arith, fit .vectors-fit, l .inv .2, l .inv .3);
+        coordinates-fit = fit .coordinates-fit;
+      },
+    )
 
 -- src/sums.rt:132:9
 add-at : tie.Need-add-at Inv-loop μ-loop
-add-at c = ?
+add-at c = omega arith
 
 -- src/sums.rt:133:9
 add-i : tie.Need-add-i Inv-loop μ-loop
-add-i c = ?
+add-i c = omega arith
 
 -- src/sums.rt:127:5
 loop-less : tie.Need-loop-less Inv-loop μ-loop
-loop-less c = ?
+loop-less c = omega arith
 
 -- src/sums.rt:127:5
 loop-again : tie.Need-loop-again Inv-loop μ-loop
-loop-again c = ?
+loop-again c = 
+    let s = c .before .before .before .before .before .before .before .before .before .before .before .before .before .before .before .before in
+    let l = c .before .before .before .before .before .before .before .before .before .before .before .loop in
+    let t = c .before .before .before .before .add-triangle in (
+      omega arith,
+      omega arith,
+      t .kept .1 .0 ∙ l .inv .2,
+      t .kept .1 .1 .0 ∙ l .inv .3,
+      λ x. sum-more (s .args .points .now) (s .args .triangles .now) x (l .i) (l .at) _ _ _ (l .inv .1) (l .inv .4 x) (t .ensures x),
+    )
 
 -- src/sums.rt:114:1
 same-length : tie.Need-same-length Inv-loop μ-loop
-same-length c = ?
+same-length c = c .before .loop .inv .2
 
 -- src/sums.rt:114:1
 same-length-2 : tie.Need-same-length-2 Inv-loop μ-loop
-same-length-2 c = ?
+same-length-2 c = c .before .loop .inv .3
 
 -- src/sums.rt:114:1
 returns : tie.Need-returns Inv-loop μ-loop
-returns c = ?
+returns c = λ x.
+    let s = c .before .before .before .before .before .before in
+    let l = c .before .loop in
+    let end : l .i ≡ triangleCount (s .args .triangles .now) = omega arith in
+    l .inv .4 x ∙ rw end
 
 pub add-triangles-spec : {M : Type 1} → statement M
 add-triangles-spec =
