@@ -4,3 +4,4 @@ pub mod Floats
 pub mod Ways
 pub mod Stored
 pub mod Summed
+pub mod Finished

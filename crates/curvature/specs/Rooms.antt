@@ -8,10 +8,10 @@ use lib.Ieee.{Float, nan}
 use Rattle.grid.specs.Limits.{mostCoordinate}
 use Rattle.mesh.specs.Check.{allWithin}
 use Rattle.curvature.specs.Vectors.{vectorAt}
-use Rattle.curvature.specs.Sums.{Sum}
+use Rattle.curvature.specs.Sums.{Sum, sums}
 
 unfoldable pub sumAt : List Float → List Float → ℕ → Sum
-sumAt areas vectors point = record { area = getD areas point nan; vector = vectorAt vectors (3 * point) }
+sumAt areas vectors point = sums (getD areas point nan) (vectorAt vectors (3 * point))
 
 -- each point has a place within the limit, a number in the first room and three in the second
 pub record RoomsFit (points : List ℕ) (areas vectors : List Float) : Type 0 where

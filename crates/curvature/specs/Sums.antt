@@ -17,9 +17,12 @@ pub record Sum : Type 0 where
   pub area : Float
   pub vector : Vector
 
+abbrev pub sums : Float → Vector → Sum
+sums area vector = record { area = area; vector = vector }
+
 -- sums start at +0.0
 abbrev pub start : Sum
-start = record { area = plusZero; vector = noVector }
+start = sums plusZero noVector
 
 -- the running vector at corner p of p, q, r: first adds cot_k·(p - q), then cot_j·(p - r), with j the corner q and k the corner r
 unfoldable pub addSides : Place → Place → Place → Float → Float → Vector → Vector
@@ -28,7 +31,7 @@ addSides p q r cotj cotk v = plus (plus v (times cotk (ofSide (between p q)))) (
 -- what corner p adds: its share, and to the vector as above
 unfoldable pub addCorner : Place → Place → Place → Float → Float → Float → Sum → Sum
 addCorner p q r share cotj cotk s =
-    record { area = add binary64 (s .area) share; vector = addSides p q r cotj cotk (s .vector) }
+    sums (add binary64 (s .area) share) (addSides p q r cotj cotk (s .vector))
 
 -- only the point at that corner takes it
 unfoldable pub atPoint : ℕ → ℕ → (Sum → Sum) → Sum → Sum
