@@ -5,3 +5,5 @@ pub mod Ways
 pub mod Stored
 pub mod Summed
 pub mod Finished
+pub mod Readings
+pub mod Granted

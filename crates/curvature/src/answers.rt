@@ -22,7 +22,7 @@ pub enum Reading {
     Refused(u32),
 }
 
-pub fn answer_of(mark: u8, area: f64, vector: Vector) -> Answer
+pub(crate) fn answer_of(mark: u8, area: f64, vector: Vector) -> Answer
     ensures { λ r. ⌜ r ≡ answerOf mark area vector ⌝ }
 {
     if mark == 1 {
@@ -56,7 +56,7 @@ fn finish_point(mark: u8, area: f64, vectors: &mut [f64], at: usize)
 }
 
 // All points.
-pub fn finish(marks: &[u8], areas: &[f64], vectors: &mut [f64])
+pub(crate) fn finish(marks: &[u8], areas: &[f64], vectors: &mut [f64])
     requires { ⌜ (length (now areas) ≡ length (now marks)) × (length (now vectors) ≡ 3 * length (now marks)) ⌝ }
     ensures { λ _. ⌜ ((x : ℕ) → x < length (now (marks .entry)) → vectorAt (now (vectors .exit)) (3 * x) ≡ storedVector (answerFrom (getD (now (marks .entry)) x 0) (sumAt (now (areas .entry)) (now (vectors .entry)) x))) ⌝ }
 {

@@ -25,7 +25,7 @@ pub struct Corners {
     pub three: f64,
 }
 
-pub fn dots_of(p: Place, q: Place, r: Place) -> Dots
+pub(crate) fn dots_of(p: Place, q: Place, r: Place) -> Dots
     requires { ⌜ Small p × Small q × Small r ⌝ }
     ensures { λ d. ⌜ d ≡ dotsAre p q r ⌝ }
 {
@@ -45,7 +45,7 @@ fn length_of(q: Place, r: Place) -> f64
 }
 
 // L at each corner: the squared side opposite it.
-pub fn squares_of(p: Place, q: Place, r: Place) -> Corners
+pub(crate) fn squares_of(p: Place, q: Place, r: Place) -> Corners
     requires { ⌜ Small p × Small q × Small r ⌝ }
     ensures { λ l. ⌜ l ≡ squaresAre p q r ⌝ }
 {
@@ -57,7 +57,7 @@ pub fn squares_of(p: Place, q: Place, r: Place) -> Corners
 }
 
 // D, twice the area, from N.
-pub fn double_area(n: u64) -> f64
+pub(crate) fn double_area(n: u64) -> f64
     requires { ⌜ (0 < n) × (n < 2 ^ windowTo) ⌝ }
     ensures { λ d. ⌜ d ≡ doubleArea n ⌝ }
 {
@@ -66,7 +66,7 @@ pub fn double_area(n: u64) -> f64
     whole::float_of_count(found.root) / whole::float_of_count(1u64 << scale)
 }
 
-pub fn cotangents(d: Dots, double: f64) -> Corners
+pub(crate) fn cotangents(d: Dots, double: f64) -> Corners
     requires { ⌜ SmallDots d ⌝ }
     ensures { λ c. ⌜ c ≡ cotangentsOf d double ⌝ }
 {
@@ -95,7 +95,7 @@ fn acute_shares(l: Corners, cot: Corners) -> Corners
 }
 
 // The share of each corner.
-pub fn shares(d: Dots, l: Corners, cot: Corners, double: f64) -> Corners
+pub(crate) fn shares(d: Dots, l: Corners, cot: Corners, double: f64) -> Corners
     requires { ⌜ SmallDots d ⌝ }
     ensures { λ s. ⌜ s ≡ sharesOf d l cot double ⌝ }
 {

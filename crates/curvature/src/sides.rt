@@ -21,7 +21,7 @@ pub struct Side {
     pub z: i64,
 }
 
-pub fn place_at(points: &[u32], p: usize) -> Place
+pub(crate) fn place_at(points: &[u32], p: usize) -> Place
     requires { ⌜ 3 * p + 2 < length (now points) ⌝ }
     ensures { λ r. ⌜ r ≡ placeOf (now (points .entry)) p ⌝ }
 {
@@ -34,7 +34,7 @@ pub fn place_at(points: &[u32], p: usize) -> Place
 }
 
 // The side that leads to p from q.
-pub fn minus(p: Place, q: Place) -> Side
+pub(crate) fn minus(p: Place, q: Place) -> Side
     ensures { λ r. ⌜ r ≡ between p q ⌝ }
 {
     Side {
@@ -44,7 +44,7 @@ pub fn minus(p: Place, q: Place) -> Side
     }
 }
 
-pub fn dot(u: Side, v: Side) -> i64
+pub(crate) fn dot(u: Side, v: Side) -> i64
     requires { ⌜ Within mostCoordinate u × Within mostCoordinate v ⌝ }
     ensures { λ r. ⌜ r ≡ dotOf u v ⌝ }
 {
@@ -62,7 +62,7 @@ fn minor(a: i64, b: i64, c: i64, d: i64) -> i64
     whole::less(whole::times(a, d), whole::times(b, c))
 }
 
-pub fn cross(u: Side, v: Side) -> Side
+pub(crate) fn cross(u: Side, v: Side) -> Side
     requires { ⌜ Within mostCoordinate u × Within mostCoordinate v ⌝ }
     ensures { λ r. ⌜ r ≡ crossOf u v ⌝ }
 {
@@ -73,7 +73,7 @@ pub fn cross(u: Side, v: Side) -> Side
     }
 }
 
-pub fn squared(u: Side) -> u64
+pub(crate) fn squared(u: Side) -> u64
     requires { ⌜ Within (mostProducts 2) u ⌝ }
     ensures { λ r. ⌜ r ≡ squaredOf u ⌝ }
 {
@@ -84,7 +84,7 @@ pub fn squared(u: Side) -> u64
 }
 
 // The dot product of the two sides that leave corner p of the triangle p, q, r.
-pub fn dot_at(p: Place, q: Place, r: Place) -> i64
+pub(crate) fn dot_at(p: Place, q: Place, r: Place) -> i64
     requires { ⌜ Small p × Small q × Small r ⌝ }
     ensures { λ d. ⌜ d ≡ dotIs p q r ⌝ }
 {
@@ -92,7 +92,7 @@ pub fn dot_at(p: Place, q: Place, r: Place) -> i64
 }
 
 // The squared cross product of the same sides.
-pub fn cross_at(p: Place, q: Place, r: Place) -> u64
+pub(crate) fn cross_at(p: Place, q: Place, r: Place) -> u64
     requires { ⌜ Small p × Small q × Small r ⌝ }
     ensures { λ n. ⌜ n ≡ crossIs p q r ⌝ }
 {

@@ -20,7 +20,7 @@ use crate::vectors;
 use crate::vectors::Vector;
 
 // Sums start at +0.0.
-pub fn clear(room: &mut [f64])
+pub(crate) fn clear(room: &mut [f64])
     ensures { λ _. ⌜ ((k : ℕ) → k < length (now (room .entry)) → getD (now (room .exit)) k nan ≡ plusZero) ⌝ }
 {
     let mut i = 0;
@@ -111,7 +111,7 @@ fn add_triangle(
 }
 
 // All triangles, in list order.
-pub fn add_triangles(
+pub(crate) fn add_triangles(
     points: &[u32],
     triangles: &[u32],
     areas: &mut [f64],

@@ -26,7 +26,7 @@ impl Vector {
     }
 
     // A side's three coordinates.
-    pub fn of_side(u: Side) -> Self
+    pub(crate) fn of_side(u: Side) -> Self
         requires { ⌜ Within mostCoordinate u ⌝ }
         ensures { λ r. ⌜ r ≡ ofSide u ⌝ }
     {
@@ -69,7 +69,7 @@ impl Vector {
 }
 
 // The three numbers of a room from a place on.
-pub fn vector_at(room: &[f64], at: usize) -> Vector
+pub(crate) fn vector_at(room: &[f64], at: usize) -> Vector
     requires { ⌜ at + 2 < length (now room) ⌝ }
     ensures { λ r. ⌜ r ≡ vectorAt (now (room .entry)) at ⌝ }
 {
@@ -80,7 +80,7 @@ pub fn vector_at(room: &[f64], at: usize) -> Vector
     }
 }
 
-pub fn put_vector(room: &mut [f64], at: usize, v: Vector)
+pub(crate) fn put_vector(room: &mut [f64], at: usize, v: Vector)
     requires { ⌜ at + 2 < length (now room) ⌝ }
     ensures { λ _. ⌜ now (room .exit) ≡ putVector (now (room .entry)) at v ⌝ }
 {

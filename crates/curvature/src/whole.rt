@@ -5,55 +5,55 @@ ghost use lib.IntN.{pos, natAbs, _+ℤ_, _-ℤ_, _*ℤ_};
 ghost use lib.Ieee.{binary64, ofInt};
 ghost use Rattle.curvature.specs.Whole.{negative};
 
-pub fn plus(a: i64, b: i64) -> i64
+pub(crate) fn plus(a: i64, b: i64) -> i64
     requires { ⌜ natAbs a + natAbs b < 2 ^ 63 ⌝ }
     ensures { λ r. ⌜ r ≡ a +ℤ b ⌝ }
 {
     a + b
 }
 
-pub fn less(a: i64, b: i64) -> i64
+pub(crate) fn less(a: i64, b: i64) -> i64
     requires { ⌜ natAbs a + natAbs b < 2 ^ 63 ⌝ }
     ensures { λ r. ⌜ r ≡ a -ℤ b ⌝ }
 {
     a - b
 }
 
-pub fn times(a: i64, b: i64) -> i64
+pub(crate) fn times(a: i64, b: i64) -> i64
     requires { ⌜ natAbs a * natAbs b < 2 ^ 63 ⌝ }
     ensures { λ r. ⌜ r ≡ a *ℤ b ⌝ }
 {
     a * b
 }
 
-pub fn square(a: i64) -> u64
+pub(crate) fn square(a: i64) -> u64
     requires { ⌜ natAbs a * natAbs a < 2 ^ 63 ⌝ }
     ensures { λ r. ⌜ r ≡ natAbs a * natAbs a ⌝ }
 {
     (a * a) as u64
 }
 
-pub fn apart(a: u32, b: u32) -> i64
+pub(crate) fn apart(a: u32, b: u32) -> i64
     ensures { λ r. ⌜ r ≡ pos a -ℤ pos b ⌝ }
 {
     (a as i64) - (b as i64)
 }
 
-pub fn is_negative(a: i64) -> bool
+pub(crate) fn is_negative(a: i64) -> bool
     ensures { λ r. ⌜ r ≡ negative a ⌝ }
 {
     a < 0
 }
 
 // Up to 2^53 every whole number is a binary64.
-pub fn float_of(a: i64) -> f64
+pub(crate) fn float_of(a: i64) -> f64
     requires { ⌜ natAbs a ≤ 2 ^ 53 ⌝ }
     ensures { λ r. ⌜ r ≡ ofInt binary64 a ⌝ }
 {
     a as f64
 }
 
-pub fn float_of_count(n: u64) -> f64
+pub(crate) fn float_of_count(n: u64) -> f64
     requires { ⌜ n ≤ 2 ^ 53 ⌝ }
     ensures { λ r. ⌜ r ≡ ofInt binary64 (pos n) ⌝ }
 {
