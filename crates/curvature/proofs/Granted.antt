@@ -57,9 +57,11 @@ pub record Passed (points triangles marks : List ℕ) : Type 0 where
   pub points-fit : length points ≡ 3 * length marks
   pub triangles-fit : trianglesFit triangles (length marks) ≡ true
   pub coordinates-fit : allWithin mostCoordinate points ≡ true
+  pub marks-fit : allWithin 1 marks ≡ true
 
-tests-passed : (a b c d : Bool) → _≡_ {A = ℕ} (cond (not a) 6 (cond (not b) 7 (cond (not c) 8 (cond (not d) 9 0)))) 0 → (a ≡ true) × (b ≡ true) × (c ≡ true)
-tests-passed true true true d h = (refl, refl, refl)
+tests-passed : (a b c d : Bool) → _≡_ {A = ℕ} (cond (not a) 6 (cond (not b) 7 (cond (not c) 8 (cond (not d) 9 0)))) 0 → (a ≡ true) × (b ≡ true) × (c ≡ true) × (d ≡ true)
+tests-passed true true true true h = (refl, refl, refl, refl)
+tests-passed true true true false h = absurd (omega arith)
 tests-passed true true false d h = absurd (omega arith)
 tests-passed true false c d h = absurd (omega arith)
 tests-passed false b c d h = absurd (omega arith)
@@ -72,6 +74,7 @@ passed points triangles marks h =
       points-fit = eqb-true _ _ (both (eqb (length points) (3 * length marks)) _ (t .0) .0);
       triangles-fit = t .1;
       coordinates-fit = t .2;
+      marks-fit = t .3;
     }
 
 module _ (points triangles marks : List ℕ) (areas vectors : List Float) where

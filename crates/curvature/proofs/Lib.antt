@@ -7,3 +7,5 @@ pub mod Summed
 pub mod Finished
 pub mod Readings
 pub mod Granted
+pub mod OneOutcome
+pub mod Recovered
