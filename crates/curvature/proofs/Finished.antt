@@ -1,15 +1,15 @@
 -- A point's answer and the vector that is stored for it.
-use mathlib.Core.Path.{_≡_, refl, sym, _∙_}
 use mathlib.Core.List.{List}
+use mathlib.Core.Path.{_≡_, refl, sym, _∙_}
 use Prim.Native.Nat.{ℕ, _+_, _*_, _≤_, _<_}
-use native.Mathlib.Omega.{arith}
 use native.Mathlib.Decide.{ℕ-discrete}
-use lib.ListN.{length, getD}
+use native.Mathlib.Omega.{arith}
 use lib.Ieee.{Float, nan, binary64, mul, ofBits}
+use lib.ListN.{length, getD}
 use Rattle.curvature.specs.declared.vectors.Vector.{Vector}
 use Rattle.curvature.specs.declared.answers.Answer.{Answer}
 use Rattle.curvature.specs.Vectors.{over, vectorAt, putVector}
-use Rattle.curvature.specs.Sums.{Sum, sums}
+use Rattle.curvature.specs.Sums.{sums}
 use Rattle.curvature.specs.Rooms.{sumAt}
 use Rattle.curvature.specs.Answers.{answerOf, answer, storedVector}
 use Rattle.curvature.proofs.Floats.{four-is}

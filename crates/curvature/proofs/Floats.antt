@@ -1,11 +1,11 @@
 -- Whole numbers as binary64 numbers: as words, and as literals.
-use mathlib.Core.Path.{_≡_, refl, _∙_}
 use mathlib.Core.Bool.{Bool}
-use Prim.Native.Nat.{ℕ, _^_, _≤_, _<_}
+use mathlib.Core.Path.{_≡_, refl, _∙_}
+use Prim.Native.Nat.{_^_, _≤_}
 use native.Mathlib.Omega.{arith}
 use lib.Count.{trailingZeros}
-use lib.IntN.{ℤ, pos, natAbs}
 use lib.Ieee.{Float, binary64, ofBits, ofFields, odd, ofInt, round, units, size, span, climb}
+use lib.IntN.{ℤ, pos, natAbs}
 use mir.Syntax.{w64}
 use mir.Val.{toZ, ofZ}
 use Rattle.curvature.specs.Whole.{negative}

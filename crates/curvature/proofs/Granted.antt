@@ -1,13 +1,13 @@
 -- A granted call: the checks have passed, and the rooms hold what is defined.
-use mathlib.Core.Path.{_≡_, refl, sym, ap, ap₂, _∙_}
+use mathlib.Core.Bool.{Bool, true, false, cond, not, and-false}
 use mathlib.Core.List.{List, [], _∷_}
-use mathlib.Core.Bool.{Bool, true, false, cond, not, _&&_, and-false}
-use Prim.Native.Nat.{ℕ, zero, suc, _+_, _*_, _/_, _%_, _≤_, _<_}
+use mathlib.Core.Path.{_≡_, refl, sym, ap, ap₂, _∙_}
+use Prim.Native.Nat.{ℕ, zero, suc, _+_, _*_, _/_, _%_, _<_}
 use native.Mathlib.Omega.{arith}
 use lib.Dec.{eqb}
+use lib.Ieee.{Float, nan}
 use lib.ListN.{length, getD}
 use lib.Seq.{ext-getD}
-use lib.Ieee.{Float, nan}
 use borrow.Author.Tests.{eq-eqb, ne-eqb, eqb-true}
 use Rattle.laws.specs.Range.{joinTo}
 use Rattle.laws.proofs.Tests.{both}
@@ -20,7 +20,7 @@ use Rattle.curvature.specs.Vectors.{plusZero, numbersOf, vectorAt}
 use Rattle.curvature.specs.Sums.{start, sumAfter}
 use Rattle.curvature.specs.Rooms.{sumAt}
 use Rattle.curvature.specs.Answers.{answer, storedVector}
-use Rattle.curvature.specs.Outcome.{Outcome, sumOf, answerFor, granted, outcome}
+use Rattle.curvature.specs.Outcome.{sumOf, answerFor, granted, outcome}
 use Rattle.curvature.specs.Promise.{left}
 
 -- three numbers of a room, by the vector that they are
@@ -36,21 +36,21 @@ rows-of-one : (n : ℕ) (f : ℕ → Float) (areas : List Float) → length area
 rows-of-one n f areas l h =
     ext-getD nan areas (joinTo n (λ x. f x ∷ [])) (omega (arith, l, length-rows 1 (λ x. f x ∷ []) (λ k. refl) n))
     (λ i s.
-      let place : i * 1 + 0 ≡ i = omega arith in
-      h i (omega (arith, l, s)) ∙ sym (rw place at (entry-at 1 (λ x. f x ∷ []) (λ k. refl) n i 0 nan (omega (arith, l, s)) (omega arith))))
+    let place : i * 1 + 0 ≡ i = omega arith in
+    h i (omega (arith, l, s)) ∙ sym (rw place at (entry-at 1 (λ x. f x ∷ []) (λ k. refl) n i 0 nan (omega (arith, l, s)) (omega arith))))
 
 rows-of-three : (n : ℕ) (f : ℕ → Vector) (vectors : List Float) → length vectors ≡ 3 * n → ((x : ℕ) → x < n → vectorAt vectors (3 * x) ≡ f x) → vectors ≡ joinTo n (λ x. numbersOf (f x))
 rows-of-three n f vectors l h =
     ext-getD nan vectors (joinTo n (λ x. numbersOf (f x))) (omega (arith, l, length-rows 3 (λ x. numbersOf (f x)) (λ k. refl) n))
     (λ i s.
-      let x = i / 3 in
-      let r = i % 3 in
-      let small : x < n = omega (arith, l, s) in
-      let place : i ≡ 3 * x + r = omega arith in
-      let row : i ≡ x * 3 + r = omega arith in
-      ap (λ k. getD vectors k nan) place
-      ∙ three-numbers vectors x r (f x) (omega arith) (h x small)
-      ∙ sym (ap (λ k. getD (joinTo n (λ y. numbersOf (f y))) k nan) row ∙ entry-at 3 (λ y. numbersOf (f y)) (λ k. refl) n x r nan small (omega arith)))
+    let x = i / 3 in
+    let r = i % 3 in
+    let small : x < n = omega (arith, l, s) in
+    let place : i ≡ 3 * x + r = omega arith in
+    let row : i ≡ x * 3 + r = omega arith in
+    ap (λ k. getD vectors k nan) place
+    ∙ three-numbers vectors x r (f x) (omega arith) (h x small)
+    ∙ sym (ap (λ k. getD (joinTo n (λ y. numbersOf (f y))) k nan) row ∙ entry-at 3 (λ y. numbersOf (f y)) (λ k. refl) n x r nan small (omega arith)))
 
 -- the checks of the mesh
 pub record Passed (points triangles marks : List ℕ) : Type 0 where

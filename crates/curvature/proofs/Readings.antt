@@ -1,15 +1,14 @@
 -- What is read back of a point, refusal by refusal.
-use mathlib.Core.Path.{_≡_, refl, sym, ap, _∙_}
-use mathlib.Core.List.{List, [], _∷_}
-use mathlib.Core.Bool.{true, false, and-false}
+use mathlib.Core.Bool.{and-false}
+use mathlib.Core.List.{List}
+use mathlib.Core.Path.{_≡_, sym}
 use Prim.Native.Nat.{ℕ, _*_, _≤_, _<_}
 use native.Mathlib.Omega.{arith}
-use lib.ListN.{length, getD}
 use lib.Ieee.{Float}
+use lib.ListN.{length, getD}
 use borrow.Author.Tests.{eq-eqb, ne-eqb, le-leb, lt-leb, lt-ltb, le-ltb}
-use Rattle.curvature.specs.declared.answers.Answer.{Answer}
 use Rattle.curvature.specs.declared.answers.Reading.the-variants.{Answered, Refused}
-use Rattle.curvature.specs.Answers.{valuesOf, numberOf, holdsOf, readNumber, answerAt}
+use Rattle.curvature.specs.Answers.{numberOf, holdsOf, readNumber, answerAt}
 use Rattle.curvature.specs.Promise.{ReadsBack}
 
 module _ (marks : List ℕ) (areas vectors : List Float) (point : ℕ) where

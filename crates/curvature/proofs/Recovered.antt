@@ -1,19 +1,18 @@
 -- What a granted call stored is read back, at every point of the mesh, as the answer that it worked out.
-use mathlib.Core.Path.{_≡_, refl, sym, ap, subst, _∙_}
-use mathlib.Core.List.{List, [], _∷_}
 use mathlib.Core.Bool.{Bool, true, false, cond, not, _&&_}
+use mathlib.Core.List.{List, [], _∷_}
+use mathlib.Core.Path.{_≡_, refl, sym, ap, subst, _∙_}
 use Prim.Native.Nat.{ℕ, _+_, _*_, _≤_, _<_}
 use native.Mathlib.Omega.{arith}
 use lib.Dec.{eqb, leb}
-use lib.ListN.{length, getD}
 use lib.Ieee.{Float, nan, eq}
+use lib.ListN.{length, getD}
 use borrow.Author.Tests.{leb-true, eqb-true, eqb-false}
 use Rattle.laws.specs.Range.{joinTo}
 use Rattle.laws.proofs.Tests.{all-at}
 use Rattle.laws.proofs.Rows.{length-rows, entry-at}
 use Rattle.mesh.specs.Check.{allWithin, meshNumber}
 use Rattle.curvature.specs.declared.vectors.Vector.{Vector}
-use Rattle.curvature.specs.declared.answers.Answer.{Answer}
 use Rattle.curvature.specs.declared.answers.Answer.the-variants.{Open, Flat, Bent}
 use Rattle.curvature.specs.declared.answers.Reading.{Reading}
 use Rattle.curvature.specs.declared.answers.Reading.the-variants.{Answered}
@@ -22,7 +21,7 @@ use Rattle.curvature.specs.Sums.{Sum}
 use Rattle.curvature.specs.Answers.{answerOf, answer, storedVector, answerAt}
 use Rattle.curvature.specs.Outcome.{Outcome, sumOf, answerFor, granted, outcome}
 use Rattle.curvature.specs.Promise.{Curves, ReadsBack}
-use Rattle.curvature.proofs.Granted.{Passed, passed}
+use Rattle.curvature.proofs.Granted.{passed}
 use Rattle.curvature.proofs.Readings.{answered}
 use Rattle.curvature.proofs.OneOutcome.{one-reading}
 

@@ -1,13 +1,13 @@
 -- What the two rooms hold of each point after a store.
-use mathlib.Core.Path.{_≡_, refl, sym, ap, ap₂, _∙_}
 use mathlib.Core.Bool.{Bool, true, false, cond}
 use mathlib.Core.List.{List}
+use mathlib.Core.Path.{_≡_, refl, sym, _∙_}
 use Prim.Native.Nat.{ℕ, _+_, _*_, _<_}
 use native.Mathlib.Omega.{arith}
 use lib.Dec.{eqb}
+use lib.Ieee.{Float, nan}
 use lib.ListN.{length, getD, set, length-set}
 use lib.Seq.{getD-set-same, getD-set-other}
-use lib.Ieee.{Float, nan}
 use borrow.Author.Tests.{eqb-true, eqb-false}
 use Rattle.curvature.specs.declared.vectors.Vector.{Vector}
 use Rattle.curvature.specs.Vectors.{vector, vectorAt, putVector}

@@ -1,16 +1,15 @@
 -- What a triangle adds to the sums of a point, from the parts that are worked out on the way.
-use mathlib.Core.Path.{_≡_, refl, sym, ap, _∙_}
-use mathlib.Core.Bool.{true, false}
+use mathlib.Core.Bool.{true}
 use mathlib.Core.List.{List}
-use Prim.Native.Nat.{ℕ, zero, suc, _+_, _*_, _≤_, _<_}
+use mathlib.Core.Path.{_≡_, sym}
+use Prim.Native.Nat.{ℕ, _+_, _*_, _<_}
 use native.Mathlib.Numerals.{add-one}
-use native.Mathlib.Omega.{arith}
 use lib.Dec.{ltb}
-use lib.ListN.{getD}
 use lib.Ieee.{Float}
+use lib.ListN.{getD}
 use borrow.Author.Tests.{eq-eqb, ne-eqb, ltb-true}
-use Rattle.laws.proofs.Tests.{both, all-at}
 use Rattle.laws.specs.Mesh.{Triangle, triangle}
+use Rattle.laws.proofs.Tests.{both, all-at}
 use Rattle.mesh.specs.Mesh.{triangleAt, triangleCount}
 use Rattle.mesh.specs.Check.{namesThree, trianglesFit}
 use Rattle.curvature.specs.declared.sides.Place.{Place}

@@ -1,6 +1,6 @@
 -- The shares, by the corner whose d is negative.
-use mathlib.Core.Path.{_≡_}
 use mathlib.Core.Bool.{true, false}
+use mathlib.Core.Path.{_≡_}
 use lib.Ieee.{Float, binary64, div, ofBits}
 use Rattle.curvature.specs.declared.corners.Dots.{Dots}
 use Rattle.curvature.specs.declared.corners.Corners.{Corners}

@@ -1,7 +1,7 @@
 -- What a triangle gives its corners (document 01, "Areas and mean curvature", first paragraph). The corners are p, q, r; "one", "two", "three" stand for them.
 use mathlib.Core.Bool.{cond}
 use Prim.Native.Nat.{ℕ, _^_}
-use lib.IntN.{ℤ, pos}
+use lib.IntN.{pos}
 use lib.Ieee.{Float, binary64, add, mul, div}
 use Rattle.root.specs.Root.{scaleOf, rootOf}
 use Rattle.curvature.specs.declared.sides.Place.{Place}

@@ -37,7 +37,7 @@ pub(crate) fn dots_of(p: Place, q: Place, r: Place) -> Dots
 }
 
 // The squared side that leads to r from q.
-fn length_of(q: Place, r: Place) -> f64
+fn squared_side(q: Place, r: Place) -> f64
     requires { ⌜ Small q × Small r ⌝ }
     ensures { λ l. ⌜ l ≡ whole (pos (squared (between r q))) ⌝ }
 {
@@ -50,9 +50,9 @@ pub(crate) fn squares_of(p: Place, q: Place, r: Place) -> Corners
     ensures { λ l. ⌜ l ≡ squaresAre p q r ⌝ }
 {
     Corners {
-        one: length_of(q, r),
-        two: length_of(r, p),
-        three: length_of(p, q),
+        one: squared_side(q, r),
+        two: squared_side(r, p),
+        three: squared_side(p, q),
     }
 }
 

@@ -1,12 +1,13 @@
 // Areas and mean curvature of a mesh, and one point's answer read back.
-ghost use mathlib.Core.Path.{_≡_};
 ghost use Rattle.curvature.specs.Promise.{left, Curves, ReadsBack};
+
 mod answers;
 mod corners;
 mod sides;
 mod sums;
 mod vectors;
 mod whole;
+
 pub use answers::Answer;
 pub use answers::Reading;
 pub use vectors::Vector;

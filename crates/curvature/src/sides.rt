@@ -59,7 +59,7 @@ fn minor(a: i64, b: i64, c: i64, d: i64) -> i64
     requires { ⌜ (natAbs a ≤ mostCoordinate) × (natAbs b ≤ mostCoordinate) × (natAbs c ≤ mostCoordinate) × (natAbs d ≤ mostCoordinate) ⌝ }
     ensures { λ r. ⌜ r ≡ a *ℤ d -ℤ b *ℤ c ⌝ }
 {
-    whole::less(whole::times(a, d), whole::times(b, c))
+    whole::minus(whole::times(a, d), whole::times(b, c))
 }
 
 pub(crate) fn cross(u: Side, v: Side) -> Side

@@ -1,10 +1,9 @@
 // The area sums and running vectors of all points, in the two result rooms.
 ghost use mathlib.Core.Path.{_≡_};
 ghost use mathlib.Core.Bool.{true};
-ghost use Prim.Native.Nat.{ℕ, _*_, _^_, _<_};
+ghost use Prim.Native.Nat.{ℕ, _*_, _<_};
 ghost use lib.ListN.{length, getD};
 ghost use lib.Ieee.{nan};
-ghost use Rattle.root.specs.Root.{windowTo};
 ghost use Rattle.laws.specs.Mesh.{triangle};
 ghost use Rattle.mesh.specs.Mesh.{triangleCount};
 ghost use Rattle.mesh.specs.Check.{trianglesFit};

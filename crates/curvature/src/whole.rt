@@ -12,7 +12,7 @@ pub(crate) fn plus(a: i64, b: i64) -> i64
     a + b
 }
 
-pub(crate) fn less(a: i64, b: i64) -> i64
+pub(crate) fn minus(a: i64, b: i64) -> i64
     requires { ⌜ natAbs a + natAbs b < 2 ^ 63 ⌝ }
     ensures { λ r. ⌜ r ≡ a -ℤ b ⌝ }
 {

@@ -1,8 +1,8 @@
 -- Newton's steps towards a whole root: a step from any guess above 0 goes to a guess not below the root, and from a guess whose square is too large to a smaller one.
 use mathlib.Core.Path.{_≡_, refl}
 use Prim.Native.Nat.{ℕ, zero, suc, _+_, _*_, _/_, _≤_, _<_}
-use native.Mathlib.Nat.{lt-of-not-le, le-dest, mul-comm, mul-add, add-mul, add-assoc, add-comm, add-left-comm, mul-le-mul-left, mul-le-mul-right, div-lt-iff-lt-mul}
 use native.Mathlib.Decide.{decLe}
+use native.Mathlib.Nat.{lt-of-not-le, le-dest, mul-comm, mul-add, add-mul, add-assoc, add-comm, add-left-comm, mul-le-mul-right, div-lt-iff-lt-mul}
 use native.Mathlib.Omega.{arith}
 
 -- for b = a + d the two squares are twice the product and d·d more

@@ -1,6 +1,6 @@
 -- The facts promised fix s and r, and the definitions work out the s and the r that have them.
-use mathlib.Core.Path.{_≡_, refl, sym, ap, subst, _∙_}
 use mathlib.Core.Bool.{Bool, true, false, cond}
+use mathlib.Core.Path.{_≡_, refl, sym, ap}
 use Prim.Native.Nat.{ℕ, zero, suc, _+_, _*_, _-_, _/_, _^_, _≤_, _<_}
 use native.Mathlib.Nat.{pow-suc, add-zero, pow-le-pow-right, mul-assoc, mul-one, mul-le-mul, mul-le-mul-left, mul-left-comm, lt-of-not-le}
 use native.Mathlib.Numerals.{add-one}

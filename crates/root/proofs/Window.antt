@@ -1,10 +1,10 @@
 -- The scaling that the leading zeros tell brings a number into the window.
-use mathlib.Core.Path.{_≡_, refl, sym, ap, _∙_}
+use mathlib.Core.Path.{_≡_, refl}
 use Prim.Native.Nat.{ℕ, zero, suc, _+_, _*_, _-_, _/_, _%_, _^_, _≤_, _<_}
-use native.Mathlib.Nat.{pow-suc, mul-assoc, mul-le-mul-right, lt-of-lt-of-le, lt-of-not-le, le-trans, pow-le-pow-right, mod-eq-of-lt}
+use native.Mathlib.Nat.{pow-suc, mul-le-mul-right, lt-of-lt-of-le, lt-of-not-le, le-trans, pow-le-pow-right, mod-eq-of-lt}
 use native.Mathlib.Omega.{arith}
 use lib.Count.{leadingZeros, leading-top}
-use lib.Pow.{pow-add, pow-lt, pow-mono, shl-lt}
+use lib.Pow.{pow-add, pow-mono, shl-lt}
 use Rattle.root.specs.Root.{windowFrom, windowTo, scaled}
 use Rattle.root.specs.Promise.{InWindow}
 

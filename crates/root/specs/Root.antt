@@ -20,10 +20,10 @@ firstScale zero b at n = at
 firstScale (suc left) true at n = at
 firstScale (suc left) false at n = firstScale left (leb (2 ^ windowFrom) (scaled n (at + 1))) (at + 1) n
 
--- s, of a number of at least 1: 4^29 is 2^58
+-- s, of a number of at least 1: 2^58 is 4^29
 unfoldable pub scaleOf : ℕ → ℕ
 unfolding firstScale
-scaleOf n = firstScale 29 (leb (2 ^ windowFrom) n) 0 n
+scaleOf n = firstScale (windowFrom / 2) (leb (2 ^ windowFrom) n) 0 n
 
 -- the root of m with one digit more than r, the root of m / 4: twice r, and one more if the square of that is not above m
 unfoldable pub nextRoot : ℕ → ℕ → ℕ
@@ -38,4 +38,4 @@ rootBelow (suc k) m = nextRoot m (rootBelow k (m / 4))
 -- r: the whole root of N·4^s, which is below 4^30
 unfoldable pub rootOf : ℕ → ℕ
 unfolding scaleOf rootBelow
-rootOf n = rootBelow 30 (scaled n (scaleOf n))
+rootOf n = rootBelow (windowTo / 2) (scaled n (scaleOf n))

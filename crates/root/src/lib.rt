@@ -1,7 +1,6 @@
 // The scaled whole root of a whole number.
-ghost use mathlib.Core.Path.{_≡_};
-ghost use Prim.Native.Nat.{_*_, _^_, _<_, _≤_};
-ghost use Rattle.root.specs.Root.{windowFrom, windowTo};
+ghost use Prim.Native.Nat.{_^_, _<_};
+ghost use Rattle.root.specs.Root.{windowTo};
 ghost use Rattle.root.specs.Promise.{InWindow, WholeRoot, Rooted};
 
 // From 2^58 up to, and not reaching, 2^60.

@@ -1,57 +1,44 @@
-use mathlib.Core.Path.{_≡_, sym, ap, _∙_}
-use Prim.Native.Nat.{ℕ, _*_, _<_}
+-- `curvature::curvature` meets its contract. Assumes nothing.
+use mathlib.Core.Path.{_≡_, sym, _∙_}
+use Prim.Native.Nat.{ℕ, _<_}
 use native.Mathlib.Omega.{arith}
-use lib.ListN.{length, getD}
+use lib.ListN.{length}
+use borrow.Author.Needs.{needs}
 use Rattle.curvature.specs.Sums.{start}
 use Rattle.curvature.specs.Rooms.{sumAt}
 use Rattle.curvature.proofs.Granted.{passed, refused-mesh, refused-areas, refused-vectors, granted-rooms, sums-start, area-is, vector-is}
-use borrow.Author.Needs.{needs}
 use Rattle.curvature.proofs.curvature.Statement.{statement}
 use Rattle.curvature.proofs.curvature.Tie as tie
-use Rattle.curvature.proofs.curvature.Reads as reads
-use Rattle.curvature.proofs.curvature.Lts as lts
-use Rattle.curvature.proofs.answers.finish.Reads as finish-reads
-use Rattle.curvature.proofs.sums.add_triangles.Reads as add-triangles-reads
-use Rattle.curvature.proofs.sums.clear.Reads as clear-reads
-use Rattle.mesh.proofs.check.Reads as check-reads
 
--- src/lib.rt:24:9
 check-requires : tie.Need-check-requires
 check-requires c κs = search needs
 
--- src/lib.rt:26:9
 returns : tie.Need-returns
-returns c = 
+returns c =
     let a = c .before .before .before .before .before .before .before .args in
     refused-mesh (a .points .now) (a .triangles .now) (a .marks .now) (a .areas .now) (a .vectors .now) (c .before .check .result) (c .before .check .ensures) (c .if1 .taken)
 
--- src/lib.rt:29:9
 returns-2 : tie.Need-returns-2
-returns-2 c = 
+returns-2 c =
     let a = c .before .before .before .before .before .before .before .before .args in
     refused-areas (a .points .now) (a .triangles .now) (a .marks .now) (a .areas .now) (a .vectors .now) (sym (c .before .before .check .ensures) ∙ c .before .if1 .left) (c .if2 .taken)
 
--- src/lib.rt:31:25
 mul-if3 : tie.Need-mul-if3
 mul-if3 c = search needs
 
--- src/lib.rt:32:9
 returns-3 : tie.Need-returns-3
-returns-3 c = 
+returns-3 c =
     let a = c .before .before .before .before .before .before .before .before .before .args in
     refused-vectors (a .points .now) (a .triangles .now) (a .marks .now) (a .areas .now) (a .vectors .now) (sym (c .before .before .before .check .ensures) ∙ c .before .before .if1 .left) (c .if3 .taken)
 
--- src/lib.rt:34:5
 clear-requires : tie.Need-clear-requires
 clear-requires c κs = search needs
 
--- src/lib.rt:35:5
 clear-requires-2 : tie.Need-clear-requires-2
 clear-requires-2 c κs = search needs
 
--- src/lib.rt:36:5
 add-triangles-requires : tie.Need-add-triangles-requires
-add-triangles-requires c κs = 
+add-triangles-requires c κs =
     let a = c .before .before .before .before .before .before .before .before .before .before .before .before .before .before .before .before .before .before .before .args in
     let ok = passed (a .points .now) (a .triangles .now) (a .marks .now) (sym (c .before .before .before .before .before .before .before .before .before .before .before .before .before .check .ensures) ∙ c .before .before .before .before .before .before .before .before .before .before .before .before .if1 .left) in
     let one = c .before .before .before .before .before .before .before .before .clear .kept .0 in
@@ -67,21 +54,17 @@ add-triangles-requires c κs =
       rw v (ok .triangles-fit),
     )
 
--- src/lib.rt:37:5
 finish-requires : tie.Need-finish-requires
 finish-requires c κs = search needs
 
--- src/lib.rt:15:1
 same-length : tie.Need-same-length
 same-length c = search needs
 
--- src/lib.rt:15:1
 same-length-2 : tie.Need-same-length-2
 same-length-2 c = search needs
 
--- src/lib.rt:15:1
 returns-4 : tie.Need-returns-4
-returns-4 c = 
+returns-4 c =
     let a = c .before .before .before .before .before .before .before .before .before .before .before .before .before .before .before .before .before .before .before .before .before .before .before .before .before .before .before .before .before .args in
     let points = a .points .now in
     let triangles = a .triangles .now in

@@ -1,73 +1,57 @@
-use mathlib.Core.Path.{_≡_, sym, ap, _∙_}
-use native.Mathlib.Omega.{arith}
-use lib.ListN.{length, getD}
+-- `curvature::read_back` meets its contract. Assumes nothing.
+use mathlib.Core.Path.{ap, _∙_}
 use lib.Ieee.{nan}
+use lib.ListN.{getD}
+use borrow.Author.Needs.{needs}
 use Rattle.curvature.specs.Answers.{answerAt, answerOf}
 use Rattle.curvature.proofs.Readings.{other-areas, other-vectors, no-such-point, no-such-mark, answered}
-use borrow.Author.Needs.{needs}
 use Rattle.curvature.proofs.read_back.Statement.{statement}
 use Rattle.curvature.proofs.read_back.Tie as tie
-use Rattle.curvature.proofs.read_back.Reads as reads
-use Rattle.curvature.proofs.read_back.Lts as lts
-use Rattle.curvature.proofs.answers.answer_of.Reads as answer-of-reads
-use Rattle.curvature.proofs.vectors.vector_at.Reads as vector-at-reads
 
--- src/lib.rt:47:9
 returns : tie.Need-returns
-returns c = 
+returns c =
     let a = c .before .before .before .before .args in
     other-areas (a .marks .now) (a .areas .now) (a .vectors .now) (a .point) (c .if1 .taken)
 
--- src/lib.rt:49:25
 mul-if2 : tie.Need-mul-if2
 mul-if2 c = search needs
 
--- src/lib.rt:50:9
 returns-2 : tie.Need-returns-2
-returns-2 c = 
+returns-2 c =
     let a = c .before .before .before .before .before .args in
     other-vectors (a .marks .now) (a .areas .now) (a .vectors .now) (a .point) (c .if2 .taken)
 
--- src/lib.rt:54:9
 returns-3 : tie.Need-returns-3
-returns-3 c = 
+returns-3 c =
     let a = c .before .before .before .before .before .before .args in
     no-such-point (a .marks .now) (a .areas .now) (a .vectors .now) (a .point) (c .before .before .if1 .left) (c .before .if2 .left) (c .if3 .taken)
 
--- src/lib.rt:56:16
 shared-slice-read-mark : tie.Need-shared-slice-read-mark
 shared-slice-read-mark c = search needs
 
--- src/lib.rt:58:9
 returns-4 : tie.Need-returns-4
-returns-4 c = 
+returns-4 c =
     let a = c .before .before .before .before .before .before .before .before .args in
     no-such-mark (a .marks .now) (a .areas .now) (a .vectors .now) (a .point) (c .before .before .before .before .if1 .left) (c .before .before .before .if2 .left) (c .before .before .if3 .left) (c .if4 .taken)
 
--- src/lib.rt:60:43
 mul-answer-of : tie.Need-mul-answer-of
 mul-answer-of c = search needs
 
--- src/lib.rt:60:43
 shared-slice-read-answer-of : tie.Need-shared-slice-read-answer-of
 shared-slice-read-answer-of c = search needs
 
--- src/lib.rt:60:81
 mul-vector-at : tie.Need-mul-vector-at
 mul-vector-at c = search needs
 
--- src/lib.rt:60:53
 vector-at-requires : tie.Need-vector-at-requires
 vector-at-requires c κs = search needs
 
--- src/lib.rt:60:9
 answer-of-requires : tie.Need-answer-of-requires
 answer-of-requires c κs = search needs
 
--- src/lib.rt:42:1
 returns-5 : tie.Need-returns-5
 unfolding answerAt
-returns-5 c = 
+returns-5 c =
     let a = c .before .before .before .before .before .before .before .before .before .before .before .args in
     let is = c .answer-of .ensures ∙ ap (λ v. answerOf (getD (a .marks .now) (a .point) 0) (getD (a .areas .now) (a .point) nan) v) (c .before .vector-at .ensures) in
     rw is

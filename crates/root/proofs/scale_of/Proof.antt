@@ -1,5 +1,4 @@
 -- `root::scale_of` meets its contract. Assumes nothing.
-use native.Mathlib.Omega.{arith}
 use borrow.Author.Needs.{needs}
 use Rattle.root.proofs.Window.{zeros-left, zeros-scale}
 use Rattle.root.proofs.scale_of.Statement.{statement}

@@ -1,5 +1,5 @@
 -- `root::whole_root` meets its contract: a guess is never below the root, and not above the first. Assumes nothing.
-use Prim.Native.Nat.{_+_, _*_, _≤_, _<_, _^_}
+use Prim.Native.Nat.{_+_, _*_, _<_, _^_}
 use native.Mathlib.Nat.{mul-le-mul, div-le-self}
 use native.Mathlib.Omega.{arith}
 use Rattle.root.proofs.Newton.{step-above, step-below, positive}

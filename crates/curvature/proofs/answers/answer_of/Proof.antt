@@ -1,22 +1,18 @@
+-- `curvature::answers::answer_of` meets its contract. Assumes nothing.
 use borrow.Author.Tests.{eq-eqb, ne-eqb}
 use Rattle.curvature.specs.Answers.{answerOf}
 use Rattle.curvature.proofs.Floats.{zero-is}
 use Rattle.curvature.proofs.answers.answer_of.Statement.{statement}
 use Rattle.curvature.proofs.answers.answer_of.Tie as tie
-use Rattle.curvature.proofs.answers.answer_of.Reads as reads
-use Rattle.curvature.proofs.answers.answer_of.Lts as lts
 
--- src/answers.rt:23:9
 returns : tie.Need-returns
 unfolding answerOf
 returns c = rw (eq-eqb _ _ (c .if1 .taken))
 
--- src/answers.rt:26:9
 returns-2 : tie.Need-returns-2
 unfolding answerOf
 returns-2 c = rw (ne-eqb _ _ (c .before .if1 .left), ← zero-is, c .if2 .taken)
 
--- src/answers.rt:19:1
 returns-3 : tie.Need-returns-3
 unfolding answerOf
 returns-3 c = rw (ne-eqb _ _ (c .before .if1 .left), ← zero-is, c .if2 .left)

@@ -1,14 +1,11 @@
 -- `curvature::answers::finish` meets its contract: the points passed have the vectors of their answers. Assumes nothing.
-use mathlib.Core.Path.{_≡_, refl, sym, _∙_}
-use Prim.Native.Nat.{ℕ, _+_, _*_, _-_, _≤_, _<_}
+use mathlib.Core.Path.{_≡_, refl, _∙_}
+use Prim.Native.Nat.{_*_, _-_, _≤_}
 use native.Mathlib.Omega.{arith}
 use lib.ListN.{length}
 use Rattle.curvature.proofs.Finished.{Finished, none-finished, one-finished}
 use Rattle.curvature.proofs.answers.finish.Statement.{statement}
 use Rattle.curvature.proofs.answers.finish.Tie as tie
-use Rattle.curvature.proofs.answers.finish.Reads as reads
-use Rattle.curvature.proofs.answers.finish.Lts as lts
-use Rattle.curvature.proofs.answers.finish_point.Reads as finish-point-reads
 
 abbrev Inv-loop : tie.InvT-loop
 Inv-loop marks areas vectors₀ i₀ at₀ vectors i at =
@@ -17,41 +14,32 @@ Inv-loop marks areas vectors₀ i₀ at₀ vectors i at =
 abbrev μ-loop : tie.MeasureT-loop
 μ-loop marks areas vectors₀ i₀ at₀ vectors i at = length marks - i
 
--- src/answers.rt:65:5
 loop-holds : tie.Need-loop-holds Inv-loop μ-loop
 loop-holds c = (omega arith, omega arith, refl, none-finished _ _ _)
 
--- src/answers.rt:66:22
 shared-slice-read-finish-point : tie.Need-shared-slice-read-finish-point Inv-loop μ-loop
 shared-slice-read-finish-point c = omega arith
 
--- src/answers.rt:66:32
 mul-finish-point : tie.Need-mul-finish-point Inv-loop μ-loop
 mul-finish-point c = omega arith
 
--- src/answers.rt:66:32
 shared-slice-read-finish-point-2 : tie.Need-shared-slice-read-finish-point-2 Inv-loop μ-loop
 shared-slice-read-finish-point-2 c = omega arith
 
--- src/answers.rt:66:9
 finish-point-requires : tie.Need-finish-point-requires Inv-loop μ-loop
 finish-point-requires c κs = omega arith
 
--- src/answers.rt:67:9
 add-at : tie.Need-add-at Inv-loop μ-loop
 add-at c = omega arith
 
--- src/answers.rt:68:9
 add-i : tie.Need-add-i Inv-loop μ-loop
 add-i c = omega arith
 
--- src/answers.rt:65:5
 loop-less : tie.Need-loop-less Inv-loop μ-loop
 loop-less c = omega arith
 
--- src/answers.rt:65:5
 loop-again : tie.Need-loop-again Inv-loop μ-loop
-loop-again c = 
+loop-again c =
     let s = c .before .before .before .before .before .before .before .before .before .before .before in
     let l = c .before .before .before .before .before .before .before .loop in
     let p = c .before .before .finish-point in (
@@ -61,11 +49,9 @@ loop-again c =
       rw (p .ensures) (one-finished (s .args .marks .now) (s .args .areas .now) (s .args .vectors .now) (l .vectors) (l .i) (l .at) (l .inv .3) (l .inv .1) (omega arith)),
     )
 
--- src/answers.rt:59:1
 same-length : tie.Need-same-length Inv-loop μ-loop
 same-length c = c .before .loop .inv .2
 
--- src/answers.rt:59:1
 returns : tie.Need-returns Inv-loop μ-loop
 returns c = λ x h. c .before .loop .inv .3 .done x (omega (arith, h))
 

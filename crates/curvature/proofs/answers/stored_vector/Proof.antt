@@ -1,43 +1,33 @@
+-- `curvature::answers::stored_vector` meets its contract. Assumes nothing.
 use mathlib.Core.Path.{sym, ap, _∙_}
-use Rattle.curvature.specs.Answers.{storedVector}
 use borrow.Author.Needs.{needs}
+use Rattle.curvature.specs.Answers.{storedVector}
 use Rattle.curvature.proofs.answers.stored_vector.Statement.{statement}
 use Rattle.curvature.proofs.answers.stored_vector.Tie as tie
-use Rattle.curvature.proofs.answers.stored_vector.Reads as reads
-use Rattle.curvature.proofs.answers.stored_vector.Lts as lts
-use Rattle.curvature.proofs.vectors.Vector.zero.Reads as zero-reads
 
--- src/answers.rt:36:28
 enum-told : tie.Need-enum-told
 enum-told c = search needs
 
--- src/answers.rt:36:28
 zero-requires : tie.Need-zero-requires
 zero-requires c κs = search needs
 
--- src/answers.rt:37:25
 enum-told-2 : tie.Need-enum-told-2
 enum-told-2 c = search needs
 
--- src/answers.rt:37:25
 zero-requires-2 : tie.Need-zero-requires-2
 zero-requires-2 c κs = search needs
 
--- src/answers.rt:38:25
 enum-known-answer : tie.Need-enum-known-answer
 enum-known-answer c = search needs
 
--- src/answers.rt:32:1
 returns : tie.Need-returns
 unfolding storedVector
 returns c = c .zero .ensures ∙ sym (ap storedVector (c .before .enum-told .given .1))
 
--- src/answers.rt:32:1
 returns-2 : tie.Need-returns-2
 unfolding storedVector
 returns-2 c = c .zero2 .ensures ∙ sym (ap storedVector (c .before .enum-told2 .given .1))
 
--- src/answers.rt:32:1
 returns-3 : tie.Need-returns-3
 unfolding storedVector
 returns-3 c = sym (ap storedVector (c .before .answer .given .1))

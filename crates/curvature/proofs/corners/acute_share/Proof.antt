@@ -1,13 +1,9 @@
-use Rattle.curvature.proofs.Floats.{eight-is}
-use mathlib.Core.Path.{refl}
-use lib.Ieee.{ofBits, ofFields, odd, ofInt}
+-- `curvature::corners::acute_share` meets its contract. Assumes nothing.
 use Rattle.curvature.specs.Corners.{acuteShare}
+use Rattle.curvature.proofs.Floats.{eight-is}
 use Rattle.curvature.proofs.corners.acute_share.Statement.{statement}
 use Rattle.curvature.proofs.corners.acute_share.Tie as tie
-use Rattle.curvature.proofs.corners.acute_share.Reads as reads
-use Rattle.curvature.proofs.corners.acute_share.Lts as lts
 
--- src/corners.rt:81:1
 returns : tie.Need-returns
 unfolding acuteShare
 returns c = rw eight-is

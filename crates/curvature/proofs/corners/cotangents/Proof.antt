@@ -1,28 +1,22 @@
+-- `curvature::corners::cotangents` meets its contract. Assumes nothing.
 use native.Mathlib.Omega.{arith}
 use Rattle.curvature.specs.Corners.{cotangents}
 use Rattle.curvature.proofs.Floats.{float-asked, float-learnt}
 use Rattle.curvature.proofs.corners.cotangents.Statement.{statement}
 use Rattle.curvature.proofs.corners.cotangents.Tie as tie
-use Rattle.curvature.proofs.corners.cotangents.Reads as reads
-use Rattle.curvature.proofs.corners.cotangents.Lts as lts
-use Rattle.curvature.proofs.whole.float_of.Reads as float-of-reads
 
--- src/corners.rt:74:14
 float-of-requires : tie.Need-float-of-requires
 float-of-requires c κs = float-asked (c .before .args .d .one) (omega (arith, c .before .pre .one))
 
--- src/corners.rt:75:14
 float-of-requires-2 : tie.Need-float-of-requires-2
 float-of-requires-2 c κs = float-asked (c .before .before .before .args .d .two) (omega (arith, c .before .before .before .pre .two))
 
--- src/corners.rt:76:16
 float-of-requires-3 : tie.Need-float-of-requires-3
 float-of-requires-3 c κs = float-asked (c .before .before .before .before .before .args .d .three) (omega (arith, c .before .before .before .before .before .pre .three))
 
--- src/corners.rt:69:1
 returns : tie.Need-returns
 unfolding cotangents
-returns c = 
+returns c =
     let s = c .before .before .before .before .before .before in
     let x = float-learnt (s .args .d .one) (omega (arith, s .pre .one)) (c .before .before .before .before .float-of .ensures) in
     let y = float-learnt (s .args .d .two) (omega (arith, s .pre .two)) (c .before .before .float-of2 .ensures) in

@@ -1,29 +1,23 @@
+-- `curvature::corners::dots_of` meets its contract. Assumes nothing.
 use mathlib.Core.Path.{_∙_}
-use Rattle.curvature.proofs.Signed.{read-back}
-use Rattle.curvature.specs.Corners.{dotsOf}
 use borrow.Author.Needs.{needs}
+use Rattle.curvature.specs.Corners.{dotsOf}
+use Rattle.curvature.proofs.Signed.{read-back}
 use Rattle.curvature.proofs.corners.dots_of.Statement.{statement}
 use Rattle.curvature.proofs.corners.dots_of.Tie as tie
-use Rattle.curvature.proofs.corners.dots_of.Reads as reads
-use Rattle.curvature.proofs.corners.dots_of.Lts as lts
-use Rattle.curvature.proofs.sides.dot_at.Reads as dot-at-reads
 
--- src/corners.rt:33:14
 dot-at-requires : tie.Need-dot-at-requires
 dot-at-requires c κs = search needs
 
--- src/corners.rt:34:14
 dot-at-requires-2 : tie.Need-dot-at-requires-2
 dot-at-requires-2 c κs = search needs
 
--- src/corners.rt:35:16
 dot-at-requires-3 : tie.Need-dot-at-requires-3
 dot-at-requires-3 c κs = search needs
 
--- src/corners.rt:28:1
 returns : tie.Need-returns
 unfolding dotsOf
-returns c = 
+returns c =
     let one = c .before .before .dot-at in
     let two = c .before .dot-at2 in
     let three = c .dot-at3 in

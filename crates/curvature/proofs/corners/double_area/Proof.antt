@@ -1,48 +1,39 @@
-use mathlib.Core.Path.{_≡_, _∙_}
+-- `curvature::corners::double_area` meets its contract. Assumes nothing.
+use mathlib.Core.Path.{_≡_}
 use Prim.Native.Nat.{ℕ, _*_, _%_, _^_, _<_}
 use native.Mathlib.Nat.{one-mul, mod-eq-of-lt}
 use native.Mathlib.Omega.{arith}
 use lib.Pow.{pow-lt}
-use Rattle.curvature.specs.Corners.{doubleArea}
+use borrow.Author.Needs.{needs}
 use Rattle.root.proofs.Window.{scale-most}
 use Rattle.root.proofs.OneRoot.{is-root-of, root-most}
-use borrow.Author.Needs.{needs}
+use Rattle.curvature.specs.Corners.{doubleArea}
 use Rattle.curvature.proofs.corners.double_area.Statement.{statement}
 use Rattle.curvature.proofs.corners.double_area.Tie as tie
-use Rattle.curvature.proofs.corners.double_area.Reads as reads
-use Rattle.curvature.proofs.corners.double_area.Lts as lts
-use Rattle.curvature.proofs.whole.float_of_count.Reads as float-of-count-reads
-use Rattle.root.proofs.root.Reads as root-reads
 
 shifted-one : (s : ℕ) → s < 30 → (1 * 2 ^ s) % 2 ^ 64 ≡ 2 ^ s
 shifted-one s h = rw (one-mul) (mod-eq-of-lt (omega (arith, pow-lt h)))
 
--- src/corners.rt:64:9
 root-requires : tie.Need-root-requires
 root-requires c κs = search needs
 
--- src/corners.rt:66:5
 float-of-count-requires : tie.Need-float-of-count-requires
 float-of-count-requires c κs = omega (arith, root-most _ _ _ (c .root .ensures))
 
--- src/corners.rt:66:71
 cast-float-of-count : tie.Need-cast-float-of-count
 cast-float-of-count c = search needs
 
--- src/corners.rt:66:63
 shl-float-of-count : tie.Need-shl-float-of-count
 shl-float-of-count c = omega (arith, scale-most _ _ (c .before .before .pre .0) (c .before .root .ensures .window))
 
--- src/corners.rt:66:41
 float-of-count-requires-2 : tie.Need-float-of-count-requires-2
-float-of-count-requires-2 c κs = 
+float-of-count-requires-2 c κs =
     let h = scale-most _ _ (c .before .before .pre .0) (c .before .root .ensures .window) in
     rw (shifted-one (c .before .root .result .scale) h) (omega (arith, pow-lt h))
 
--- src/corners.rt:60:1
 returns : tie.Need-returns
 unfolding doubleArea
-returns c = 
+returns c =
     let s = c .before .before .before in
     let found = c .before .before .root in
     let h = scale-most _ _ (s .pre .0) (found .ensures .window) in

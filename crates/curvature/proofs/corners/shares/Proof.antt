@@ -1,32 +1,25 @@
-use mathlib.Core.Path.{_≡_, sym, _∙_}
+-- `curvature::corners::shares` meets its contract. Assumes nothing.
+use mathlib.Core.Path.{sym, _∙_}
 use native.Mathlib.Omega.{arith}
+use borrow.Author.Needs.{needs}
 use Rattle.curvature.proofs.Floats.{sign-learnt}
 use Rattle.curvature.proofs.Ways.{first-negative, second-negative, third-negative, none-negative}
-use borrow.Author.Needs.{needs}
 use Rattle.curvature.proofs.corners.shares.Statement.{statement}
 use Rattle.curvature.proofs.corners.shares.Tie as tie
-use Rattle.curvature.proofs.corners.shares.Reads as reads
-use Rattle.curvature.proofs.corners.shares.Lts as lts
-use Rattle.curvature.proofs.corners.acute_shares.Reads as acute-shares-reads
-use Rattle.curvature.proofs.whole.is_negative.Reads as is-negative-reads
 
--- src/corners.rt:103:8
 is-negative-requires : tie.Need-is-negative-requires
 is-negative-requires c κs = search needs
 
--- src/corners.rt:104:9
 returns : tie.Need-returns
-returns c = 
+returns c =
     let s = c .before .before .before in
     first-negative _ _ _ _ (sym (sign-learnt (s .args .d .one) (omega (arith, s .pre .one)) (c .before .is-negative .ensures)) ∙ c .if1 .taken)
 
--- src/corners.rt:110:8
 is-negative-requires-2 : tie.Need-is-negative-requires-2
 is-negative-requires-2 c κs = search needs
 
--- src/corners.rt:111:9
 returns-2 : tie.Need-returns-2
-returns-2 c = 
+returns-2 c =
     let s = c .before .before .before .before .before .before in
     let one = c .before .before .before .before .is-negative in
     let two = c .before .is-negative2 in
@@ -34,13 +27,11 @@ returns-2 c =
     (sym (sign-learnt (s .args .d .one) (omega (arith, s .pre .one)) (one .ensures)) ∙ c .before .before .before .if1 .left)
     (sym (sign-learnt (s .args .d .two) (omega (arith, s .pre .two)) (two .ensures)) ∙ c .if2 .taken)
 
--- src/corners.rt:117:8
 is-negative-requires-3 : tie.Need-is-negative-requires-3
 is-negative-requires-3 c κs = search needs
 
--- src/corners.rt:118:9
 returns-3 : tie.Need-returns-3
-returns-3 c = 
+returns-3 c =
     let s = c .before .before .before .before .before .before .before .before .before in
     let one = c .before .before .before .before .before .before .before .is-negative in
     let two = c .before .before .before .before .is-negative2 in
@@ -50,13 +41,11 @@ returns-3 c =
     (sym (sign-learnt (s .args .d .two) (omega (arith, s .pre .two)) (two .ensures)) ∙ c .before .before .before .if2 .left)
     (sym (sign-learnt (s .args .d .three) (omega (arith, s .pre .three)) (three .ensures)) ∙ c .if3 .taken)
 
--- src/corners.rt:124:5
 acute-shares-requires : tie.Need-acute-shares-requires
 acute-shares-requires c κs = search needs
 
--- src/corners.rt:98:1
 returns-4 : tie.Need-returns-4
-returns-4 c = 
+returns-4 c =
     let s = c .before .before .before .before .before .before .before .before .before .before in
     let one = c .before .before .before .before .before .before .before .before .is-negative in
     let two = c .before .before .before .before .before .is-negative2 in

@@ -1,5 +1,5 @@
 -- `curvature::sides::cross_at` meets its contract. Assumes nothing.
-use mathlib.Core.Path.{_≡_, _∙_, ap₂}
+use mathlib.Core.Path.{_∙_, ap₂}
 use borrow.Author.Needs.{needs}
 use Rattle.curvature.specs.Sides.{cross, crossAt}
 use Rattle.curvature.proofs.Bounds.{between-within, cross-within}

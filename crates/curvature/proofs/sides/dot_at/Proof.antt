@@ -1,5 +1,5 @@
 -- `curvature::sides::dot_at` meets its contract. Assumes nothing.
-use mathlib.Core.Path.{_≡_, sym, _∙_}
+use mathlib.Core.Path.{_∙_}
 use borrow.Author.Needs.{needs}
 use Rattle.curvature.specs.Sides.{dotAt}
 use Rattle.curvature.proofs.Signed.{read-back}

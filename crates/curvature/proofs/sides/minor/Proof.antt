@@ -1,5 +1,5 @@
 -- `curvature::sides::minor` meets its contract. Assumes nothing.
-use mathlib.Core.Path.{_≡_, ap, _∙_, ap₂}
+use mathlib.Core.Path.{ap, _∙_, ap₂}
 use Prim.Native.Nat.{_+_, _^_, _<_}
 use native.Mathlib.Omega.{arith}
 use lib.IntN.{natAbs, _-ℤ_}
@@ -14,8 +14,8 @@ times-requires c κs = product-asked (c .args .a) (c .args .d) (c .pre .0) (c .p
 times-requires-2 : tie.Need-times-requires-2
 times-requires-2 c κs = let s = c .before in product-asked (s .args .b) (s .args .c) (s .pre .1) (s .pre .2)
 
-less-requires : tie.Need-less-requires
-less-requires c κs =
+minus-requires : tie.Need-minus-requires
+minus-requires c κs =
     let s = c .before .before in
     let one = c .before .times in
     let two = c .times2 in
@@ -35,9 +35,9 @@ returns c =
     let two = c .before .times2 in
     let first = product-learnt (s .args .a) (s .args .d) (s .pre .0) (s .pre .3) (one .ensures) in
     let second = product-learnt (s .args .b) (s .args .c) (s .pre .1) (s .pre .2) (two .ensures) in
-    read-back (c .less .result) (c .less .ok)
-    ∙ learnt (one .result) (two .result) (one .ok) (two .ok) _-ℤ_ (c .less .ensures)
+    read-back (c .minus .result) (c .minus .ok)
+    ∙ learnt (one .result) (two .result) (one .ok) (two .ok) _-ℤ_ (c .minus .ensures)
     ∙ ap₂ _-ℤ_ first second
 
 pub minor-spec : {M : Type 1} → statement M
-minor-spec = tie.close (tie.spec times-requires times-requires-2 less-requires returns)
+minor-spec = tie.close (tie.spec times-requires times-requires-2 minus-requires returns)

@@ -1,5 +1,5 @@
 -- `curvature::sides::minus` meets its contract. Assumes nothing.
-use mathlib.Core.Path.{_≡_, _∙_}
+use mathlib.Core.Path.{_∙_}
 use borrow.Author.Needs.{needs}
 use Rattle.curvature.specs.Sides.{between}
 use Rattle.curvature.proofs.Signed.{read-back}

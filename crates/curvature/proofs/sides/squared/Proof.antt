@@ -1,5 +1,5 @@
 -- `curvature::sides::squared` meets its contract. Assumes nothing.
-use mathlib.Core.Path.{_≡_, ap, _∙_, ap₂}
+use mathlib.Core.Path.{_≡_, _∙_, ap₂}
 use Prim.Native.Nat.{ℕ, _+_, _*_, _^_, _≤_, _<_}
 use native.Mathlib.Omega.{arith}
 use lib.IntN.{ℤ, natAbs}

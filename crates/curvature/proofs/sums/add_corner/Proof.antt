@@ -1,63 +1,46 @@
-use mathlib.Core.Path.{ap}
+-- `curvature::sums::add_corner` meets its contract. Assumes nothing.
+use mathlib.Core.Path.{ap, _∙_}
 use Prim.Native.Nat.{_*_}
-use lib.ListN.{getD, set}
 use lib.Ieee.{nan, binary64, add}
+use lib.ListN.{getD, set}
+use borrow.Author.Needs.{needs}
 use Rattle.curvature.specs.Vectors.{putVector}
-use Rattle.curvature.specs.Sums.{addSides}
-use mathlib.Core.Path.{_∙_, ap₂}
-use Rattle.curvature.specs.Sums.{addCorner}
+use Rattle.curvature.specs.Sums.{addSides, addCorner}
 use Rattle.curvature.specs.Rooms.{sumAt}
 use Rattle.curvature.proofs.Stored.{stored}
-use borrow.Author.Needs.{needs}
 use Rattle.curvature.proofs.sums.add_corner.Statement.{statement}
 use Rattle.curvature.proofs.sums.add_corner.Tie as tie
-use Rattle.curvature.proofs.sums.add_corner.Reads as reads
-use Rattle.curvature.proofs.sums.add_corner.Lts as lts
-use Rattle.curvature.proofs.sums.add_sides.Reads as add-sides-reads
-use Rattle.curvature.proofs.vectors.put_vector.Reads as put-vector-reads
-use Rattle.curvature.proofs.vectors.vector_at.Reads as vector-at-reads
 
--- src/sums.rt:58:20
 mul-areas : tie.Need-mul-areas
 mul-areas c = search needs
 
--- src/sums.rt:58:20
 slice-read-areas : tie.Need-slice-read-areas
 slice-read-areas c = search needs
 
--- src/sums.rt:58:5
 mul-areas-2 : tie.Need-mul-areas-2
 mul-areas-2 c = search needs
 
--- src/sums.rt:58:5
 slice-write-areas : tie.Need-slice-write-areas
 slice-write-areas c = search needs
 
--- src/sums.rt:59:14
 mul-at : tie.Need-mul-at
 mul-at c = search needs
 
--- src/sums.rt:60:9
 vector-at-requires : tie.Need-vector-at-requires
 vector-at-requires c κs = search needs
 
--- src/sums.rt:61:38
 add-sides-requires : tie.Need-add-sides-requires
 add-sides-requires c κs = search needs
 
--- src/sums.rt:61:5
 put-vector-requires : tie.Need-put-vector-requires
 put-vector-requires c κs = search needs
 
--- src/sums.rt:43:1
 same-length : tie.Need-same-length
 same-length c = search needs
 
--- src/sums.rt:43:1
 same-length-2 : tie.Need-same-length-2
 same-length-2 c = search needs
 
--- src/sums.rt:43:1
 returns : tie.Need-returns
 unfolding addCorner sumAt
 returns c = λ x.

@@ -1,76 +1,57 @@
-use mathlib.Core.Path.{_≡_, ap, _∙_}
+-- `curvature::sums::add_places` meets its contract. Assumes nothing.
+use mathlib.Core.Path.{_∙_}
 use native.Mathlib.Omega.{arith}
+use borrow.Author.Needs.{needs}
 use Rattle.laws.specs.Mesh.{triangle}
-use Rattle.curvature.specs.Rooms.{sumAt}
 use Rattle.curvature.proofs.Bounds.{dots-small, cross-at-small}
 use Rattle.curvature.proofs.Summed.{corners-add, places-add}
-use borrow.Author.Needs.{needs}
 use Rattle.curvature.proofs.sums.add_places.Statement.{statement}
 use Rattle.curvature.proofs.sums.add_places.Tie as tie
-use Rattle.curvature.proofs.sums.add_places.Reads as reads
-use Rattle.curvature.proofs.sums.add_places.Lts as lts
-use Rattle.curvature.proofs.corners.cotangents.Reads as cotangents-reads
-use Rattle.curvature.proofs.corners.dots_of.Reads as dots-of-reads
-use Rattle.curvature.proofs.corners.double_area.Reads as double-area-reads
-use Rattle.curvature.proofs.corners.shares.Reads as shares-reads
-use Rattle.curvature.proofs.corners.squares_of.Reads as squares-of-reads
-use Rattle.curvature.proofs.sums.add_corner.Reads as add-corner-reads
 
--- src/sums.rt:82:9
 double-area-requires : tie.Need-double-area-requires
-double-area-requires c κs = 
+double-area-requires c κs =
     let s = c .before .before in
     let h = cross-at-small (s .args .p) (s .args .q) (s .args .r) (s .pre .1 .0 .0) (s .pre .1 .0 .1) (s .pre .1 .0 .2) in
     (s .pre .1 .1 .0, omega (arith, h, s .pre .1 .1 .1))
 
--- src/sums.rt:83:9
 dots-of-requires : tie.Need-dots-of-requires
 dots-of-requires c κs = search needs
 
--- src/sums.rt:84:9
 cotangents-requires : tie.Need-cotangents-requires
-cotangents-requires c κs = 
+cotangents-requires c κs =
     let s = c .before .before .before .before in
     rw (c .dots-of .ensures) (dots-small _ _ _ (s .pre .1 .0 .0) (s .pre .1 .0 .1) (s .pre .1 .0 .2))
 
--- src/sums.rt:85:39
 squares-of-requires : tie.Need-squares-of-requires
 squares-of-requires c κs = search needs
 
--- src/sums.rt:85:9
 shares-requires : tie.Need-shares-requires
-shares-requires c κs = 
+shares-requires c κs =
     let s = c .before .before .before .before .before .before in
     rw (c .before .before .dots-of .ensures) (dots-small _ _ _ (s .pre .1 .0 .0) (s .pre .1 .0 .1) (s .pre .1 .0 .2))
 
--- src/sums.rt:86:5
 add-corner-requires : tie.Need-add-corner-requires
 add-corner-requires c κs = search needs
 
--- src/sums.rt:87:5
 add-corner-requires-2 : tie.Need-add-corner-requires-2
-add-corner-requires-2 c κs = 
+add-corner-requires-2 c κs =
     let s = c .before .before .before .before .before .before .before .before .before .before .before .before .before .before .before .before in
     let one = c .before .before .before .before .before .before .add-corner .kept in
     ((omega (arith, one .0, s .pre .0 .1), omega (arith, one .0, one .1 .0, s .pre .0 .3)), (s .pre .1 .0 .1, s .pre .1 .0 .2, s .pre .1 .0 .0))
 
--- src/sums.rt:88:5
 add-corner-requires-3 : tie.Need-add-corner-requires-3
-add-corner-requires-3 c κs = 
+add-corner-requires-3 c κs =
     let s = c .before .before .before .before .before .before .before .before .before .before .before .before .before .before .before .before .before .before .before .before .before .before .before in
     let one = c .before .before .before .before .before .before .before .before .before .before .before .before .before .add-corner .kept in
     let two = c .before .before .before .before .before .before .add-corner2 .kept in
     ((omega (arith, one .0, two .0, s .pre .0 .2), omega (arith, one .0, one .1 .0, two .0, two .1 .0, s .pre .0 .3)), (s .pre .1 .0 .2, s .pre .1 .0 .0, s .pre .1 .0 .1))
 
--- src/sums.rt:66:1
 same-length : tie.Need-same-length
 same-length c = search needs
 
--- src/sums.rt:66:1
 same-length-2 : tie.Need-same-length-2
 same-length-2 c = search needs
 
--- src/sums.rt:66:1
 returns : tie.Need-returns
 returns c = λ x.
     let s = c .before .before .before .before .before .before .before .before .before .before .before .before .before .before .before .before .before .before .before .before .before .before .before .before .before .before .before .before in

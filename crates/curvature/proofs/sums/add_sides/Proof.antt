@@ -1,49 +1,34 @@
-use mathlib.Core.Path.{_∙_}
+-- `curvature::sums::add_sides` meets its contract. Assumes nothing.
+use borrow.Author.Needs.{needs}
 use Rattle.curvature.specs.Sums.{addSides}
 use Rattle.curvature.proofs.Bounds.{between-within}
-use borrow.Author.Needs.{needs}
 use Rattle.curvature.proofs.sums.add_sides.Statement.{statement}
 use Rattle.curvature.proofs.sums.add_sides.Tie as tie
-use Rattle.curvature.proofs.sums.add_sides.Reads as reads
-use Rattle.curvature.proofs.sums.add_sides.Lts as lts
-use Rattle.curvature.proofs.sides.minus.Reads as minus-reads
-use Rattle.curvature.proofs.vectors.Vector.of_side.Reads as of-side-reads
-use Rattle.curvature.proofs.vectors.Vector.plus.Reads as plus-reads
-use Rattle.curvature.proofs.vectors.Vector.times.Reads as times-reads
 
--- src/sums.rt:37:33
 minus-requires : tie.Need-minus-requires
 minus-requires c κs = search needs
 
--- src/sums.rt:37:17
 of-side-requires : tie.Need-of-side-requires
 of-side-requires c κs = rw (c .minus .ensures) (between-within _ _ (c .before .pre .0) (c .before .pre .1))
 
--- src/sums.rt:37:9
 times-requires : tie.Need-times-requires
 times-requires c κs = search needs
 
--- src/sums.rt:38:34
 minus-requires-2 : tie.Need-minus-requires-2
 minus-requires-2 c κs = search needs
 
--- src/sums.rt:38:18
 of-side-requires-2 : tie.Need-of-side-requires-2
 of-side-requires-2 c κs = let s = c .before .before .before .before in rw (c .minus2 .ensures) (between-within _ _ (s .pre .0) (s .pre .2))
 
--- src/sums.rt:38:9
 times-requires-2 : tie.Need-times-requires-2
 times-requires-2 c κs = search needs
 
--- src/sums.rt:39:5
 plus-requires : tie.Need-plus-requires
 plus-requires c κs = search needs
 
--- src/sums.rt:39:5
 plus-requires-2 : tie.Need-plus-requires-2
 plus-requires-2 c κs = search needs
 
--- src/sums.rt:33:1
 returns : tie.Need-returns
 unfolding addSides
 returns c = cc

@@ -1,23 +1,14 @@
-use mathlib.Core.Path.{_≡_, sym, ap, _∙_}
-use Prim.Native.Nat.{ℕ, _<_}
-use native.Mathlib.Omega.{arith}
+-- `curvature::sums::add_triangle` meets its contract. Assumes nothing.
+use mathlib.Core.Path.{sym, _∙_}
 use native.Mathlib.Nat.{pos-of-ne-zero}
-use lib.ListN.{length}
+use native.Mathlib.Omega.{arith}
+use borrow.Author.Needs.{needs}
 use Rattle.laws.specs.Mesh.{triangle}
-use Rattle.curvature.specs.Sides.{placeOf, crossAt}
 use Rattle.curvature.specs.Sizes.{Small}
-use Rattle.curvature.specs.Sums.{addPlaces}
-use Rattle.curvature.specs.Rooms.{sumAt}
 use Rattle.curvature.proofs.Bounds.{place-small}
 use Rattle.curvature.proofs.Summed.{nothing-added, something-added, cross-of, same-places}
-use borrow.Author.Needs.{needs}
 use Rattle.curvature.proofs.sums.add_triangle.Statement.{statement}
 use Rattle.curvature.proofs.sums.add_triangle.Tie as tie
-use Rattle.curvature.proofs.sums.add_triangle.Reads as reads
-use Rattle.curvature.proofs.sums.add_triangle.Lts as lts
-use Rattle.curvature.proofs.sides.cross_at.Reads as cross-at-reads
-use Rattle.curvature.proofs.sides.place_at.Reads as place-at-reads
-use Rattle.curvature.proofs.sums.add_places.Reads as add-places-reads
 
 three-small : (c : tie.After-place-at3) → Small (c .before .before .place-at .result) × Small (c .before .place-at2 .result) × Small (c .place-at3 .result)
 three-small c =
@@ -28,38 +19,30 @@ three-small c =
       rw (c .place-at3 .ensures) (place-small (s .args .points .now) (s .args .c) (fit .coordinates-fit) (omega (arith, fit .points-fit, s .pre .0 .2))),
     )
 
--- src/sums.rt:104:9
 place-at-requires : tie.Need-place-at-requires
 place-at-requires c κs = search needs
 
--- src/sums.rt:105:9
 place-at-requires-2 : tie.Need-place-at-requires-2
 place-at-requires-2 c κs = search needs
 
--- src/sums.rt:106:9
 place-at-requires-3 : tie.Need-place-at-requires-3
 place-at-requires-3 c κs = search needs
 
--- src/sums.rt:107:9
 cross-at-requires : tie.Need-cross-at-requires
 cross-at-requires c κs = three-small c
 
--- src/sums.rt:109:9
 add-places-requires : tie.Need-add-places-requires
-add-places-requires c κs = 
+add-places-requires c κs =
     let s = c .before .before .before .before .before .before .before .before .before .before in
     let n = c .before .before .before .cross-at in
     ((s .pre .0 .0, s .pre .0 .1, s .pre .0 .2, s .pre .1 .vectors-fit), (three-small (c .before .before .before .before), (pos-of-ne-zero (c .before .before .if1 .taken), n .ensures)))
 
--- src/sums.rt:92:1
 same-length : tie.Need-same-length
 same-length c = search needs
 
--- src/sums.rt:92:1
 same-length-2 : tie.Need-same-length-2
 same-length-2 c = search needs
 
--- src/sums.rt:92:1
 returns : tie.Need-returns
 returns c = λ x.
     let s = c .before .before .before .before .before .before .before .before .before .before .before .before .before .before .before in
@@ -72,7 +55,6 @@ returns c = λ x.
     ∙ same-places (triangle (a .a) (a .b) (a .c)) x _ one two three
     ∙ something-added (a .points .now) (triangle (a .a) (a .b) (a .c)) x _ (λ e. c .before .before .before .before .before .before .before .if1 .taken (cross-of n one two three ∙ e))
 
--- src/sums.rt:92:1
 returns-2 : tie.Need-returns-2
 returns-2 c = λ x.
     let s = c .before .before .before .before .before .before .before .before in

@@ -1,17 +1,14 @@
 -- `curvature::sums::add_triangles` meets its contract: each point's sums are those after the triangles passed. Assumes nothing.
-use mathlib.Core.Path.{_≡_, refl, sym, _∙_}
-use Prim.Native.Nat.{ℕ, _+_, _*_, _-_, _≤_, _<_}
+use mathlib.Core.Path.{_≡_, refl, _∙_}
+use Prim.Native.Nat.{ℕ, _+_, _*_, _-_, _≤_}
 use native.Mathlib.Omega.{arith}
-use lib.ListN.{length, getD}
+use lib.ListN.{length}
 use Rattle.mesh.specs.Mesh.{triangleCount}
 use Rattle.curvature.specs.Sums.{sumAfter}
-use Rattle.curvature.specs.Rooms.{sumAt, RoomsFit}
+use Rattle.curvature.specs.Rooms.{sumAt}
 use Rattle.curvature.proofs.Summed.{Named, named, sum-more}
 use Rattle.curvature.proofs.sums.add_triangles.Statement.{statement}
 use Rattle.curvature.proofs.sums.add_triangles.Tie as tie
-use Rattle.curvature.proofs.sums.add_triangles.Reads as reads
-use Rattle.curvature.proofs.sums.add_triangles.Lts as lts
-use Rattle.curvature.proofs.sums.add_triangle.Reads as add-triangle-reads
 
 abbrev Inv-loop : tie.InvT-loop
 Inv-loop points triangles areas₀ vectors₀ count i₀ at₀ areas vectors i at =
@@ -31,58 +28,45 @@ names c =
     let l = c .before .loop in
     named (s .args .triangles .now) (length (s .args .areas .now)) (l .i) (l .at) (s .pre .1) (omega arith) (l .inv .1)
 
--- src/sums.rt:127:5
 loop-holds : tie.Need-loop-holds Inv-loop μ-loop
 unfolding sumAfter
 loop-holds c = (omega arith, omega arith, refl, refl, λ x. refl)
 
--- src/sums.rt:128:17
 mul-a : tie.Need-mul-a Inv-loop μ-loop
 mul-a c = omega arith
 
--- src/sums.rt:128:17
 shared-slice-read-a : tie.Need-shared-slice-read-a Inv-loop μ-loop
 shared-slice-read-a c = omega arith
 
--- src/sums.rt:128:17
 cast-a : tie.Need-cast-a Inv-loop μ-loop
 cast-a c = omega (arith, c .shared-slice-known3 .given (c .before .before .loop .at))
 
--- src/sums.rt:129:27
 add-b : tie.Need-add-b Inv-loop μ-loop
 add-b c = omega arith
 
--- src/sums.rt:129:17
 mul-b : tie.Need-mul-b Inv-loop μ-loop
 mul-b c = omega arith
 
--- src/sums.rt:129:17
 shared-slice-read-b : tie.Need-shared-slice-read-b Inv-loop μ-loop
 shared-slice-read-b c = omega arith
 
--- src/sums.rt:129:17
 cast-b : tie.Need-cast-b Inv-loop μ-loop
 cast-b c = omega (arith, c .shared-slice-known4 .given (c .before .before .before .loop .at + 1))
 
--- src/sums.rt:130:27
 add-c : tie.Need-add-c Inv-loop μ-loop
 add-c c = omega arith
 
--- src/sums.rt:130:17
 mul-c : tie.Need-mul-c Inv-loop μ-loop
 mul-c c = omega arith
 
--- src/sums.rt:130:17
 shared-slice-read-c : tie.Need-shared-slice-read-c Inv-loop μ-loop
 shared-slice-read-c c = omega arith
 
--- src/sums.rt:130:17
 cast-c : tie.Need-cast-c Inv-loop μ-loop
 cast-c c = omega (arith, c .shared-slice-known5 .given (c .before .before .before .before .loop .at + 2))
 
--- src/sums.rt:131:9
 add-triangle-requires : tie.Need-add-triangle-requires Inv-loop μ-loop
-add-triangle-requires c κs = 
+add-triangle-requires c κs =
     let s = c .before .before .before .before .before .before .before .before .before .before .before in
     let l = c .before .before .before .before .before .before .loop in
     let n = names (c .before .before .before .before .before) in
@@ -95,21 +79,17 @@ add-triangle-requires c κs =
       },
     )
 
--- src/sums.rt:132:9
 add-at : tie.Need-add-at Inv-loop μ-loop
 add-at c = omega arith
 
--- src/sums.rt:133:9
 add-i : tie.Need-add-i Inv-loop μ-loop
 add-i c = omega arith
 
--- src/sums.rt:127:5
 loop-less : tie.Need-loop-less Inv-loop μ-loop
 loop-less c = omega arith
 
--- src/sums.rt:127:5
 loop-again : tie.Need-loop-again Inv-loop μ-loop
-loop-again c = 
+loop-again c =
     let s = c .before .before .before .before .before .before .before .before .before .before .before .before .before .before .before .before in
     let l = c .before .before .before .before .before .before .before .before .before .before .before .loop in
     let t = c .before .before .before .before .add-triangle in (
@@ -120,15 +100,12 @@ loop-again c =
       λ x. sum-more (s .args .points .now) (s .args .triangles .now) x (l .i) (l .at) _ _ _ (l .inv .1) (l .inv .4 x) (t .ensures x),
     )
 
--- src/sums.rt:114:1
 same-length : tie.Need-same-length Inv-loop μ-loop
 same-length c = c .before .loop .inv .2
 
--- src/sums.rt:114:1
 same-length-2 : tie.Need-same-length-2 Inv-loop μ-loop
 same-length-2 c = c .before .loop .inv .3
 
--- src/sums.rt:114:1
 returns : tie.Need-returns Inv-loop μ-loop
 returns c = λ x.
     let s = c .before .before .before .before .before .before in

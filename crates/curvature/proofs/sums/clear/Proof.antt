@@ -1,13 +1,13 @@
 -- `curvature::sums::clear` meets its contract: what was passed is +0.0. Assumes nothing.
+use mathlib.Core.List.{List}
 use mathlib.Core.Path.{_≡_, refl, _∙_}
 use Prim.Native.Nat.{ℕ, _-_, _≤_, _<_}
 use native.Mathlib.Nat.{ne-of-lt}
 use native.Mathlib.Omega.{arith}
-use borrow.Author.Count.{below-none, below-more}
 use lib.Ieee.{Float, nan}
 use lib.ListN.{length, getD, set, length-set}
 use lib.Seq.{getD-set-same, getD-set-other}
-use mathlib.Core.List.{List}
+use borrow.Author.Count.{below-none, below-more}
 use Rattle.curvature.specs.Vectors.{plusZero}
 use Rattle.curvature.proofs.Floats.{zero-is}
 use Rattle.curvature.proofs.sums.clear.Statement.{statement}

@@ -1,44 +1,34 @@
+-- `curvature::vectors::vector_at` meets its contract. Assumes nothing.
 use mathlib.Core.Path.{refl}
-use Rattle.curvature.specs.Vectors.{vectorAt}
 use borrow.Author.Needs.{needs}
+use Rattle.curvature.specs.Vectors.{vectorAt}
 use Rattle.curvature.proofs.vectors.vector_at.Statement.{statement}
 use Rattle.curvature.proofs.vectors.vector_at.Tie as tie
-use Rattle.curvature.proofs.vectors.vector_at.Reads as reads
-use Rattle.curvature.proofs.vectors.vector_at.Lts as lts
 
--- src/vectors.rt:77:12
 mul-t3 : tie.Need-mul-t3
 mul-t3 c = search needs
 
--- src/vectors.rt:77:12
 shared-slice-read-t5 : tie.Need-shared-slice-read-t5
 shared-slice-read-t5 c = search needs
 
--- src/vectors.rt:78:17
 add-t6 : tie.Need-add-t6
 add-t6 c = search needs
 
--- src/vectors.rt:78:12
 mul-t7 : tie.Need-mul-t7
 mul-t7 c = search needs
 
--- src/vectors.rt:78:12
 shared-slice-read-t9 : tie.Need-shared-slice-read-t9
 shared-slice-read-t9 c = search needs
 
--- src/vectors.rt:79:17
 add-t10 : tie.Need-add-t10
 add-t10 c = search needs
 
--- src/vectors.rt:79:12
 mul-t11 : tie.Need-mul-t11
 mul-t11 c = search needs
 
--- src/vectors.rt:79:12
 shared-slice-read-t13 : tie.Need-shared-slice-read-t13
 shared-slice-read-t13 c = search needs
 
--- src/vectors.rt:72:1
 returns : tie.Need-returns
 unfolding vectorAt
 returns c = refl

@@ -1,6 +1,6 @@
 -- `curvature::whole::float_of_count` meets its contract. Assumes nothing.
-use borrow.Author.Needs.{needs}
 use lib.IntN.{pos}
+use borrow.Author.Needs.{needs}
 use Rattle.curvature.proofs.Signed.{exact}
 use Rattle.curvature.proofs.whole.float_of_count.Statement.{statement}
 use Rattle.curvature.proofs.whole.float_of_count.Tie as tie

@@ -1,8 +1,8 @@
 -- `curvature::whole::is_negative` meets its contract. Assumes nothing.
 use mathlib.Core.Path.{_≡_, refl}
+use native.Mathlib.Omega.{arith}
 use lib.IntN.{ℤ, pos, negsuc}
 use lib.Signed.{ltZ}
-use native.Mathlib.Omega.{arith}
 use borrow.Author.Tests.{le-ltb}
 use Rattle.curvature.specs.Whole.{negative}
 use Rattle.curvature.proofs.Signed.{read-back}

@@ -1,7 +1,7 @@
 -- `curvature::whole::square` meets its contract. Assumes nothing.
-use mathlib.Core.Path.{_≡_, refl, ap, _∙_}
+use mathlib.Core.Path.{_∙_}
 use native.Mathlib.Omega.{arith}
-use lib.IntN.{ℤ, natAbs, _*ℤ_}
+use lib.IntN.{_*ℤ_}
 use Rattle.curvature.proofs.Signed.{size-times, square-is, result-held, result-read}
 use Rattle.curvature.proofs.whole.square.Statement.{statement}
 use Rattle.curvature.proofs.whole.square.Tie as tie

@@ -1,29 +1,22 @@
+-- `curvature::vectors::Vector::of_side` meets its contract. Assumes nothing.
 use native.Mathlib.Omega.{arith}
-use mathlib.Core.Path.{ap₂}
-use Rattle.curvature.specs.Vectors.{ofSide, vector}
+use Rattle.curvature.specs.Vectors.{ofSide}
 use Rattle.curvature.proofs.Floats.{float-asked, float-learnt}
 use Rattle.curvature.proofs.vectors.Vector.of_side.Statement.{statement}
 use Rattle.curvature.proofs.vectors.Vector.of_side.Tie as tie
-use Rattle.curvature.proofs.vectors.Vector.of_side.Reads as reads
-use Rattle.curvature.proofs.vectors.Vector.of_side.Lts as lts
-use Rattle.curvature.proofs.whole.float_of.Reads as float-of-reads
 
--- src/vectors.rt:35:16
 float-of-requires : tie.Need-float-of-requires
 float-of-requires c κs = float-asked (c .before .args .u .x) (omega (arith, c .before .pre .x))
 
--- src/vectors.rt:36:16
 float-of-requires-2 : tie.Need-float-of-requires-2
 float-of-requires-2 c κs = float-asked (c .before .before .before .args .u .y) (omega (arith, c .before .before .before .pre .y))
 
--- src/vectors.rt:37:16
 float-of-requires-3 : tie.Need-float-of-requires-3
 float-of-requires-3 c κs = float-asked (c .before .before .before .before .before .args .u .z) (omega (arith, c .before .before .before .before .before .pre .z))
 
--- src/vectors.rt:30:5
 returns : tie.Need-returns
 unfolding ofSide
-returns c = 
+returns c =
     let s = c .before .before .before .before .before .before in
     let x = float-learnt (s .args .u .x) (omega (arith, s .pre .x)) (c .before .before .before .before .float-of .ensures) in
     let y = float-learnt (s .args .u .y) (omega (arith, s .pre .y)) (c .before .before .float-of2 .ensures) in

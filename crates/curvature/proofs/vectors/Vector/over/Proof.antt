@@ -1,11 +1,9 @@
+-- `curvature::vectors::Vector::over` meets its contract. Assumes nothing.
 use mathlib.Core.Path.{refl}
 use Rattle.curvature.specs.Vectors.{over}
 use Rattle.curvature.proofs.vectors.Vector.over.Statement.{statement}
 use Rattle.curvature.proofs.vectors.Vector.over.Tie as tie
-use Rattle.curvature.proofs.vectors.Vector.over.Reads as reads
-use Rattle.curvature.proofs.vectors.Vector.over.Lts as lts
 
--- src/vectors.rt:61:5
 returns : tie.Need-returns
 unfolding over
 returns c = refl

@@ -1,11 +1,9 @@
+-- `curvature::vectors::Vector::times` meets its contract. Assumes nothing.
 use mathlib.Core.Path.{refl}
 use Rattle.curvature.specs.Vectors.{times}
 use Rattle.curvature.proofs.vectors.Vector.times.Statement.{statement}
 use Rattle.curvature.proofs.vectors.Vector.times.Tie as tie
-use Rattle.curvature.proofs.vectors.Vector.times.Reads as reads
-use Rattle.curvature.proofs.vectors.Vector.times.Lts as lts
 
--- src/vectors.rt:51:5
 returns : tie.Need-returns
 unfolding times
 returns c = refl

@@ -1,9 +1,9 @@
--- `curvature::whole::less` meets its contract. Assumes nothing.
+-- `curvature::whole::minus` meets its contract. Assumes nothing.
 use native.Mathlib.Omega.{arith}
 use lib.IntN.{_-ℤ_}
 use Rattle.curvature.proofs.Signed.{size-less, result-held, result-read}
-use Rattle.curvature.proofs.whole.less.Statement.{statement}
-use Rattle.curvature.proofs.whole.less.Tie as tie
+use Rattle.curvature.proofs.whole.minus.Statement.{statement}
+use Rattle.curvature.proofs.whole.minus.Tie as tie
 
 sub-result : tie.Need-sub-result
 sub-result c =
@@ -17,5 +17,5 @@ returns c =
     let b = c .args .b in
     result-read a b (c .fits .a .sfits) (c .fits .b .sfits) _-ℤ_ (omega (arith, size-less a b, c .pre))
 
-pub less-spec : {M : Type 1} → statement M
-less-spec = tie.close (tie.spec sub-result returns)
+pub minus-spec : {M : Type 1} → statement M
+minus-spec = tie.close (tie.spec sub-result returns)
