@@ -1,0 +1,13 @@
+-- Reading order: signed whole numbers as words, and how large those of a triangle are; whole numbers as binary64 numbers; the ways to the shares; what the rooms hold after a store, after
+-- a triangle and at the end; what is read back; one outcome; and that what was stored is read back as it was worked out.
+pub mod Signed
+pub mod Bounds
+pub mod Floats
+pub mod Ways
+pub mod Stored
+pub mod Summed
+pub mod Finished
+pub mod Readings
+pub mod Granted
+pub mod OneOutcome
+pub mod Recovered

@@ -1,0 +1,12 @@
+-- `curvature::vectors::Vector::over` meets its contract. Assumes nothing.
+use mathlib.Core.Path.{refl}
+use Rattle.curvature.specs.Vectors.{over}
+use Rattle.curvature.proofs.vectors.Vector.over.Statement.{statement}
+use Rattle.curvature.proofs.vectors.Vector.over.Tie as tie
+
+returns : tie.Need-returns
+unfolding over
+returns c = refl
+
+pub over-spec : {M : Type 1} → statement M
+over-spec = tie.close (tie.spec returns)

@@ -1,0 +1,12 @@
+-- `curvature::vectors::Vector::times` meets its contract. Assumes nothing.
+use mathlib.Core.Path.{refl}
+use Rattle.curvature.specs.Vectors.{times}
+use Rattle.curvature.proofs.vectors.Vector.times.Statement.{statement}
+use Rattle.curvature.proofs.vectors.Vector.times.Tie as tie
+
+returns : tie.Need-returns
+unfolding times
+returns c = refl
+
+pub times-spec : {M : Type 1} → statement M
+times-spec = tie.close (tie.spec returns)

@@ -1,0 +1,24 @@
+-- What the calls promise.
+use mathlib.Core.Path.{_≡_}
+use mathlib.Core.List.{List, [], _∷_}
+use mathlib.Core.Bool.{cond}
+use Prim.Native.Nat.{ℕ}
+use lib.Dec.{eqb}
+use lib.Ieee.{Float}
+use Rattle.curvature.specs.declared.answers.Reading.{Reading}
+use Rattle.curvature.specs.Answers.{valuesOf, numberOf, holdsOf, readNumber, answerAt}
+use Rattle.curvature.specs.Outcome.{Outcome, outcome}
+
+-- what was left behind, as one value
+abbrev pub left : ℕ → List Float → List Float → Outcome
+left number areas vectors = record { number = number; areas = areas; vectors = vectors }
+
+-- a call on these rooms may leave this behind
+abbrev pub Curves : List ℕ → List ℕ → List ℕ → List Float → List Float → Outcome → Type 0
+Curves points triangles marks areas vectors after = after ≡ outcome points triangles marks areas vectors
+
+-- one answer read back: the number, and the values of the one answer if granted
+abbrev pub ReadsBack : List ℕ → List Float → List Float → ℕ → Reading → Type 0
+ReadsBack marks areas vectors point r =
+    let number = readNumber marks areas vectors point in
+    (numberOf r ≡ number) × (holdsOf r ≡ cond (eqb number 0) (valuesOf (answerAt marks areas vectors point) ∷ []) [])

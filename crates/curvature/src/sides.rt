@@ -1,0 +1,100 @@
+// A triangle in whole numbers: places, the sides between them, and their products.
+ghost use mathlib.Core.Path.{_≡_};
+ghost use Prim.Native.Nat.{_+_, _*_, _<_, _≤_};
+ghost use lib.ListN.{length};
+ghost use lib.IntN.{natAbs, _-ℤ_, _*ℤ_};
+ghost use Rattle.grid.specs.Limits.{mostCoordinate};
+ghost use Rattle.curvature.specs.Sides.{placeOf, between, dot as dotOf, cross as crossOf, squared as squaredOf, dotAt as dotIs, crossAt as crossIs};
+ghost use Rattle.curvature.specs.Sizes.{Small, Within, mostProducts};
+use crate::whole;
+
+pub struct Place {
+    pub x: u32,
+    pub y: u32,
+    pub z: u32,
+}
+
+// What leads from one place to another.
+pub struct Side {
+    pub x: i64,
+    pub y: i64,
+    pub z: i64,
+}
+
+pub(crate) fn place_at(points: &[u32], p: usize) -> Place
+    requires { ⌜ 3 * p + 2 < length (now points) ⌝ }
+    ensures { λ r. ⌜ r ≡ placeOf (now (points .entry)) p ⌝ }
+{
+    let at = 3 * p;
+    Place {
+        x: points[at],
+        y: points[at + 1],
+        z: points[at + 2],
+    }
+}
+
+// The side that leads to p from q.
+pub(crate) fn minus(p: Place, q: Place) -> Side
+    ensures { λ r. ⌜ r ≡ between p q ⌝ }
+{
+    Side {
+        x: whole::apart(p.x, q.x),
+        y: whole::apart(p.y, q.y),
+        z: whole::apart(p.z, q.z),
+    }
+}
+
+pub(crate) fn dot(u: Side, v: Side) -> i64
+    requires { ⌜ Within mostCoordinate u × Within mostCoordinate v ⌝ }
+    ensures { λ r. ⌜ r ≡ dotOf u v ⌝ }
+{
+    let x = whole::times(u.x, v.x);
+    let y = whole::times(u.y, v.y);
+    let z = whole::times(u.z, v.z);
+    whole::plus(whole::plus(x, y), z)
+}
+
+// a·d - b·c
+fn minor(a: i64, b: i64, c: i64, d: i64) -> i64
+    requires { ⌜ (natAbs a ≤ mostCoordinate) × (natAbs b ≤ mostCoordinate) × (natAbs c ≤ mostCoordinate) × (natAbs d ≤ mostCoordinate) ⌝ }
+    ensures { λ r. ⌜ r ≡ a *ℤ d -ℤ b *ℤ c ⌝ }
+{
+    whole::minus(whole::times(a, d), whole::times(b, c))
+}
+
+pub(crate) fn cross(u: Side, v: Side) -> Side
+    requires { ⌜ Within mostCoordinate u × Within mostCoordinate v ⌝ }
+    ensures { λ r. ⌜ r ≡ crossOf u v ⌝ }
+{
+    Side {
+        x: minor(u.y, u.z, v.y, v.z),
+        y: minor(u.z, u.x, v.z, v.x),
+        z: minor(u.x, u.y, v.x, v.y),
+    }
+}
+
+pub(crate) fn squared(u: Side) -> u64
+    requires { ⌜ Within (mostProducts 2) u ⌝ }
+    ensures { λ r. ⌜ r ≡ squaredOf u ⌝ }
+{
+    let x = whole::square(u.x);
+    let y = whole::square(u.y);
+    let z = whole::square(u.z);
+    x + y + z
+}
+
+// The dot product of the two sides that leave corner p of the triangle p, q, r.
+pub(crate) fn dot_at(p: Place, q: Place, r: Place) -> i64
+    requires { ⌜ Small p × Small q × Small r ⌝ }
+    ensures { λ d. ⌜ d ≡ dotIs p q r ⌝ }
+{
+    dot(minus(q, p), minus(r, p))
+}
+
+// The squared cross product of the same sides.
+pub(crate) fn cross_at(p: Place, q: Place, r: Place) -> u64
+    requires { ⌜ Small p × Small q × Small r ⌝ }
+    ensures { λ n. ⌜ n ≡ crossIs p q r ⌝ }
+{
+    squared(cross(minus(q, p), minus(r, p)))
+}
