@@ -12,7 +12,7 @@ use Rattle.curvature.specs.declared.answers.Reading.the-variants.{Answer
 use Rattle.curvature.specs.Vectors.{vector}
 use Rattle.curvature.specs.Answers.{valuesOf, numberOf, holdsOf}
 use Rattle.curvature.specs.Outcome.{Outcome}
-use Rattle.curvature.specs.Promise.{Curves, ReadsBack}
+use Rattle.curvature.specs.Promise.{Curves, ReadsBack, Tells}
 
 pub one-outcome : (points triangles marks : List ℕ) (areas vectors : List Float) (one other : Outcome) → Curves points triangles marks areas vectors one → Curves points triangles marks areas vectors other → one ≡ other
 one-outcome points triangles marks areas vectors one other p q = cc
@@ -22,7 +22,7 @@ one-vector : (v w : Vector) → v .x ≡ w .x → v .y ≡ w .y → v .z ≡ w .
 one-vector v w a b c = let e : vector (v .x) (v .y) (v .z) ≡ vector (w .x) (w .y) (w .z) = rw (a, b, c) in e
 
 -- the values of an answer tell it
-one-answer : (a b : Answer) → valuesOf a ≡ valuesOf b → a ≡ b
+pub one-answer : (a b : Answer) → valuesOf a ≡ valuesOf b → a ≡ b
 unfolding valuesOf
 one-answer (Open x) (Open y) h = cc
 one-answer (Open x) Flat h = let z : _≡_ {A = ℕ} 0 1 = cc in absurd (omega arith)
@@ -44,3 +44,9 @@ one-held (Refused n) (Refused m) e h = ap Refused e
 
 pub one-reading : (marks : List ℕ) (areas vectors : List Float) (point : ℕ) (one other : Reading) → ReadsBack marks areas vectors point one → ReadsBack marks areas vectors point other → one ≡ other
 one-reading marks areas vectors point one other p q = one-held one other (p .0 ∙ sym (q .0)) (p .1 ∙ sym (q .1))
+
+-- an answer told to a caller in C
+pub one-told : (marks : List ℕ) (areas vectors : List Float) (point heldKind : ℕ) (held : List Float) (n m kind other : ℕ) (after rest : List Float)
+    → Tells marks areas vectors point heldKind held n kind after → Tells marks areas vectors point heldKind held m other rest
+    → (n ≡ m) × (kind ≡ other) × (after ≡ rest)
+one-told marks areas vectors point heldKind held n m kind other after rest a b = (a .0 ∙ sym (b .0), a .1 ∙ sym (b .1), a .2 ∙ sym (b .2))

@@ -28,6 +28,17 @@ storedVector (Open area) = noVector
 storedVector Flat = noVector
 storedVector (Bent area v) = v
 
+-- the kind of an answer, and its area: a flat point's is told as +0.0
+unfoldable pub kindOf : Answer → ℕ
+kindOf (Open area) = 0
+kindOf Flat = 1
+kindOf (Bent area v) = 2
+
+unfoldable pub areaOf : Answer → Float
+areaOf (Open area) = area
+areaOf Flat = plusZero
+areaOf (Bent area v) = area
+
 -- the values of an answer, for each case: an open point's area; none of a flat one; a bent point's area and vector
 unfoldable pub valuesOf : Answer → List Float
 valuesOf (Open area) = area ∷ []

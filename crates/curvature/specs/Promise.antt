@@ -6,7 +6,7 @@ use Prim.Native.Nat.{ℕ}
 use lib.Dec.{eqb}
 use lib.Ieee.{Float}
 use Rattle.curvature.specs.declared.answers.Reading.{Reading}
-use Rattle.curvature.specs.Answers.{valuesOf, numberOf, holdsOf, readNumber, answerAt}
+use Rattle.curvature.specs.Answers.{kindOf, areaOf, storedVector, valuesOf, numberOf, holdsOf, readNumber, answerAt}
 use Rattle.curvature.specs.Outcome.{Outcome, outcome}
 
 -- what was left behind, as one value
@@ -22,3 +22,11 @@ abbrev pub ReadsBack : List ℕ → List Float → List Float → ℕ → Readin
 ReadsBack marks areas vectors point r =
     let number = readNumber marks areas vectors point in
     (numberOf r ≡ number) × (holdsOf r ≡ cond (eqb number 0) (valuesOf (answerAt marks areas vectors point) ∷ []) [])
+
+-- one answer read back by a caller in C: the number, and what kind, area, x, y and z hold after, given what they held
+abbrev pub Tells : List ℕ → List Float → List Float → ℕ → ℕ → List Float → ℕ → ℕ → List Float → Type 0
+Tells marks areas vectors point heldKind held number kind after =
+    let wanted = readNumber marks areas vectors point in
+    let a = answerAt marks areas vectors point in
+    (number ≡ wanted) × (kind ≡ cond (eqb wanted 0) (kindOf a) heldKind)
+    × (after ≡ cond (eqb wanted 0) (areaOf a ∷ storedVector a .x ∷ storedVector a .y ∷ storedVector a .z ∷ []) held)

@@ -5,7 +5,7 @@ ghost use lib.ListN.{length, getD};
 ghost use Rattle.curvature.specs.Vectors.{vectorAt, putVector};
 ghost use Rattle.curvature.specs.Sums.{sums};
 ghost use Rattle.curvature.specs.Rooms.{sumAt};
-ghost use Rattle.curvature.specs.Answers.{answerOf, answer as answerFrom, storedVector};
+ghost use Rattle.curvature.specs.Answers.{answerOf, answer as answerFrom, kindOf, areaOf, storedVector};
 use crate::vectors;
 use crate::vectors::Vector;
 
@@ -20,6 +20,35 @@ pub enum Answer {
 pub enum Reading {
     Answered(Answer),
     Refused(u32),
+}
+
+// An answer as plain numbers: its kind, 0 open, 1 flat, 2 bent, its area and its vector; what a kind does not have is +0.0.
+pub struct Plain {
+    pub kind: u32,
+    pub area: f64,
+    pub vector: Vector,
+}
+
+pub fn told(answer: Answer) -> Plain
+    ensures { λ r. ⌜ (r .kind ≡ kindOf answer) × (r .area ≡ areaOf answer) × (r .vector ≡ storedVector answer) ⌝ }
+{
+    match answer {
+        Answer::Open(area) => Plain {
+            kind: 0,
+            area,
+            vector: Vector::zero(),
+        },
+        Answer::Flat => Plain {
+            kind: 1,
+            area: 0.0,
+            vector: Vector::zero(),
+        },
+        Answer::Bent(area, vector) => Plain {
+            kind: 2,
+            area,
+            vector,
+        },
+    }
 }
 
 pub(crate) fn answer_of(mark: u8, area: f64, vector: Vector) -> Answer

@@ -9,7 +9,9 @@ mod vectors;
 mod whole;
 
 pub use answers::Answer;
+pub use answers::Plain;
 pub use answers::Reading;
+pub use answers::told;
 pub use vectors::Vector;
 
 // The corner areas and mean curvature vectors of a mesh, into the two lent rooms.

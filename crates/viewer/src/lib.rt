@@ -2,7 +2,9 @@
 ghost use Rattle.cube.specs.Promise.{Counted, EdgeRead};
 ghost use Rattle.extract.specs.Promise.{rooms, left, Extracts};
 ghost use Rattle.smooth.specs.Promise.{Smooths, Shows};
+ghost use Rattle.curvature.specs.Promise.{left as curvesLeft, Curves, Tells};
 ghost use mathlib.Core.List.{[], _∷_};
+use curvature::Reading;
 
 // How many triangles a case has: 0 to 5.
 #[no_mangle]
@@ -98,4 +100,49 @@ pub extern "C" fn tholbrina_show<'a>(
         *z = part[2];
     }
     number
+}
+
+// Corner areas and mean curvature vectors into the two lent rooms. Answers 0 if granted, else the refusal's number.
+#[no_mangle]
+pub extern "C" fn tholbrina_curvature(
+    points: &[u32],
+    triangles: &[u32],
+    marks: &[u8],
+    areas: &mut [f64],
+    vectors: &mut [f64],
+) -> u32
+    ensures { λ r. ⌜ Curves (now (points .entry)) (now (triangles .entry)) (now (marks .entry)) (now (areas .entry)) (now (vectors .entry)) (curvesLeft r (now (areas .exit)) (now (vectors .exit))) ⌝ }
+{
+    curvature::curvature(points, triangles, marks, areas, vectors)
+}
+
+// One point's answer: its kind, 0 open, 1 flat, 2 bent, its area and its vector; what a kind does not have is +0.0. Answers 0 if granted, else the
+// refusal's number; the five stay after a refusal.
+#[no_mangle]
+pub extern "C" fn tholbrina_answer(
+    marks: &[u8],
+    areas: &[f64],
+    vectors: &[f64],
+    point: u32,
+    kind: &mut u32,
+    area: &mut f64,
+    x: &mut f64,
+    y: &mut f64,
+    z: &mut f64,
+) -> u32
+    ensures { λ r. ⌜ Tells (now (marks .entry)) (now (areas .entry)) (now (vectors .entry)) point (now (kind .entry)) (now (area .entry) ∷ now (x .entry) ∷ now (y .entry) ∷ now (z .entry) ∷ []) r (now (kind .exit)) (now (area .exit) ∷ now (x .exit) ∷ now (y .exit) ∷ now (z .exit) ∷ []) ⌝ }
+{
+    let reading = curvature::read_back(marks, areas, vectors, point);
+    match reading {
+        Reading::Refused(number) => number,
+        Reading::Answered(answer) => {
+            let plain = curvature::told(answer);
+            *kind = plain.kind;
+            *area = plain.area;
+            *x = plain.vector.x;
+            *y = plain.vector.y;
+            *z = plain.vector.z;
+            0
+        }
+    }
 }
