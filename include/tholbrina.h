@@ -79,6 +79,32 @@ uint32_t tholbrina_show(const uint32_t *raw, size_t raw_len,
                         uint32_t second, uint32_t point,
                         uint32_t *x, uint32_t *y, uint32_t *z);
 
+/* Corner areas and mean curvature of a mesh. V is marks_len. areas has one number a point, vectors three; both in units of 1/256 of a voxel.
+ * A point's vector is +0.0 where its mark is 1 or its area 0. There is no work room.
+ *
+ * Refusals, in this order, each of which leaves both rooms as they were: 6, 7, 8, 9 as for tholbrina_smooth, then
+ *   3   areas_len is not V, or vectors_len is not 3V */
+uint32_t tholbrina_curvature(const uint32_t *points, size_t points_len,
+                             const uint32_t *triangles, size_t triangles_len,
+                             const uint8_t *marks, size_t marks_len,
+                             double *areas, size_t areas_len,
+                             double *vectors, size_t vectors_len);
+
+/* The kinds of an answer: open, a point with mark 1, has an area; flat has neither; bent has an area and a vector. */
+enum { tholbrina_open = 0, tholbrina_flat = 1, tholbrina_bent = 2 };
+
+/* One point's answer, read back from the marks and both rooms: its kind, its area and its vector x, y, z. What a kind does not have is +0.0.
+ *
+ * Refusals, in this order; each leaves all five as they were:
+ *   6   areas_len is not marks_len, or vectors_len is not three times that
+ *   14  point is not below marks_len
+ *   9   that point's mark is over 1 */
+uint32_t tholbrina_answer(const uint8_t *marks, size_t marks_len,
+                          const double *areas, size_t areas_len,
+                          const double *vectors, size_t vectors_len,
+                          uint32_t point, uint32_t *kind, double *area,
+                          double *x, double *y, double *z);
+
 #ifdef __cplusplus
 }
 #endif

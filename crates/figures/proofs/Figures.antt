@@ -14,8 +14,14 @@ use Rattle.laws.specs.Order.{isIn}
 use Rattle.laws.specs.Mesh.{sides, sameArrow}
 use Rattle.mesh.specs.Neighbours.{neighbours, shareSide}
 use Rattle.smooth.specs.Round.{moved, movedIf, round}
+use lib.Count.{trailingZeros}
+use lib.Ieee.{ofInt, div, add, mul, sum, round as rounded, units, odd, size, span, climb}
+use Rattle.root.specs.Root.{scaleOf, firstScale, rootOf, rootBelow, nextRoot}
+use Rattle.curvature.specs.Whole.{negative}
+use Rattle.curvature.specs.Sides.{placeOf, between, dot, cross, squared, dotAt, oppositeAt, crossAt}
+use Rattle.curvature.specs.Corners.{dotsOf, squaresOf, doubleArea, cotangents, acuteShare, acuteShares, shares}
 use Rattle.figures.specs.Figure.{Holds, figures}
 
 pub figures-hold : All Holds figures
-unfolding triangles flatMap fan loops segments segmentsOf faceSegments cuts wayRound isAbove bit offset nearest moved sumOf round movedIf neighbours shareSide sides isIn sameArrow keepTo joinTo
-figures-hold = (refl, (refl, (refl, (refl, (refl, (refl, (refl, (refl, (refl, (refl, (refl, (refl, (refl, (refl, tt))))))))))))))
+unfolding triangles flatMap fan loops segments segmentsOf faceSegments cuts wayRound isAbove bit offset nearest moved sumOf round movedIf neighbours shareSide sides isIn sameArrow keepTo joinTo scaleOf firstScale rootOf rootBelow nextRoot placeOf between dot cross squared dotAt oppositeAt crossAt negative dotsOf squaresOf doubleArea cotangents acuteShare acuteShares shares ofInt div add mul sum rounded units odd size span climb trailingZeros
+figures-hold = (refl, (refl, (refl, (refl, (refl, (refl, (refl, (refl, (refl, (refl, (refl, (refl, (refl, (refl, (refl, tt)))))))))))))))

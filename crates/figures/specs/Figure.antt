@@ -8,6 +8,28 @@ use lib.ListN.{length, replicate}
 use Rattle.laws.specs.Sum.{sumOf}
 use Rattle.grid.specs.Point.{offset}
 use Rattle.smooth.specs.Round.{moved, round}
+use lib.IntN.{pos}
+use lib.Ieee.{Float}
+use Rattle.root.specs.Root.{scaleOf}
+use Rattle.curvature.specs.declared.corners.Corners.{Corners}
+use Rattle.curvature.specs.Sides.{placeOf, crossAt}
+use Rattle.curvature.specs.Vectors.{whole}
+use Rattle.curvature.specs.Corners.{corners, dotsOf, squaresOf, doubleArea, cotangents, shares}
+
+-- document 01's s, D and shares of a triangle of three points, whose coordinates stand in a list
+pub record Parts : Type 0 where
+  pub scale : ℕ
+  pub double : Float
+  pub share : Corners
+
+abbrev partsOf : List ℕ → Parts
+partsOf points =
+    let p = placeOf points 0 in
+    let q = placeOf points 1 in
+    let r = placeOf points 2 in
+    let n = crossAt p q r in
+    let d = dotsOf p q r in
+    record { scale = scaleOf n; double = doubleArea n; share = shares d (squaresOf p q r) (cotangents d (doubleArea n)) (doubleArea n) }
 
 -- a row of the table, by its kind
 pub data Figure : Type 0 where
@@ -19,12 +41,17 @@ pub data Figure : Type 0 where
   movesTo : ℕ → List ℕ → ℕ → ℕ → Figure
   -- a mesh after one round of a weight stands at these places
   roundGives : List Triangle → List ℕ → List ℕ → ℕ → List ℕ → Figure
+  -- a triangle at these coordinates has this s, this D and these three shares, all whole numbers
+  triangleHas : List ℕ → ℕ → ℕ → ℕ → ℕ → ℕ → Figure
 
 abbrev pub Holds : Figure → Type 0
 Holds (caseHas k ts) = triangles k ≡ ts
 Holds (offsetIs v0 v1 grey o) = offset v0 v1 grey ≡ o
 Holds (movesTo p ns w to) = moved w (length ns) p (sumOf (λ n. n) ns) ≡ to
 Holds (roundGives ts marks points w places) = round ts marks w points ≡ places
+Holds (triangleHas points s double a b c) =
+    partsOf points
+    ≡ record { scale = s; double = whole (pos double); share = corners (whole (pos a)) (whole (pos b)) (whole (pos c)) }
 
 -- the mesh of 3×3×3 samples, the centre 100 and the others 0, at grey value 50
 abbrev octahedron : List Triangle
@@ -50,5 +77,6 @@ figures =
     ∷ offsetIs 0 5 5 256
     ∷ movesTo 10 (20 ∷ 21 ∷ 21 ∷ []) 256 21
     ∷ movesTo 10 (20 ∷ 21 ∷ 21 ∷ []) 128 15
+    ∷ triangleHas (0 ∷ 0 ∷ 0 ∷ 256 ∷ 0 ∷ 0 ∷ 0 ∷ 256 ∷ 0 ∷ []) 13 65536 16384 8192 8192
     ∷ roundGives octahedron (replicate 6 0) octahedronPoints 256 (replicate 18 256)
     ∷ []

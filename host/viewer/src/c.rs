@@ -50,6 +50,32 @@ mod declared {
             y: *mut u32,
             z: *mut u32,
         ) -> u32;
+        pub fn tholbrina_curvature(
+            points: *const u32,
+            points_len: usize,
+            triangles: *const u32,
+            triangles_len: usize,
+            marks: *const u8,
+            marks_len: usize,
+            areas: *mut f64,
+            areas_len: usize,
+            vectors: *mut f64,
+            vectors_len: usize,
+        ) -> u32;
+        pub fn tholbrina_answer(
+            marks: *const u8,
+            marks_len: usize,
+            areas: *const f64,
+            areas_len: usize,
+            vectors: *const f64,
+            vectors_len: usize,
+            point: u32,
+            kind: *mut u32,
+            area: *mut f64,
+            x: *mut f64,
+            y: *mut f64,
+            z: *mut f64,
+        ) -> u32;
     }
 }
 
@@ -145,6 +171,57 @@ pub fn show(
             smoothed.len(),
             second,
             point,
+            x,
+            y,
+            z,
+        )
+    }
+}
+
+pub fn curvature(
+    points: &[u32],
+    triangles: &[u32],
+    marks: &[u8],
+    areas: &mut [f64],
+    vectors: &mut [f64],
+) -> u32 {
+    // SAFETY: each slice is lent for the call with its own length, the two mutable ones are different, and the function has no requirement.
+    unsafe {
+        declared::tholbrina_curvature(
+            points.as_ptr(),
+            points.len(),
+            triangles.as_ptr(),
+            triangles.len(),
+            marks.as_ptr(),
+            marks.len(),
+            areas.as_mut_ptr(),
+            areas.len(),
+            vectors.as_mut_ptr(),
+            vectors.len(),
+        )
+    }
+}
+
+pub fn answer(
+    marks: &[u8],
+    areas: &[f64],
+    vectors: &[f64],
+    point: u32,
+    kind: &mut u32,
+    [area, x, y, z]: &mut [f64; 4],
+) -> u32 {
+    // SAFETY: each slice is lent for the call with its own length, the five numbers are different places, and the function has no requirement.
+    unsafe {
+        declared::tholbrina_answer(
+            marks.as_ptr(),
+            marks.len(),
+            areas.as_ptr(),
+            areas.len(),
+            vectors.as_ptr(),
+            vectors.len(),
+            point,
+            kind,
+            area,
             x,
             y,
             z,

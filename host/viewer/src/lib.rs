@@ -86,3 +86,22 @@ pub fn smooth(
 pub fn show(raw: &[u32], smoothed: &[u32], second: u32, point: u32, place: &mut [u32; 3]) -> u32 {
     c::show(raw, smoothed, second, point, place)
 }
+
+/// Corner areas, one a point, and mean curvature vectors, three numbers a point, into lent rooms of exactly those lengths. Answers 0 if granted,
+/// else the refusal's number.
+pub fn curvature(mesh: Mesh<'_>, areas: &mut [f64], vectors: &mut [f64]) -> u32 {
+    c::curvature(mesh.points, mesh.triangles, mesh.marks, areas, vectors)
+}
+
+/// One point's answer as the C side tells it: kind 0 open, 1 flat, 2 bent, and area, x, y, z, of which +0.0 stands for what a kind does not have.
+/// Answers 0 if granted, else the refusal's number, and all five stay.
+pub fn answer(
+    marks: &[u8],
+    areas: &[f64],
+    vectors: &[f64],
+    point: u32,
+    kind: &mut u32,
+    values: &mut [f64; 4],
+) -> u32 {
+    c::answer(marks, areas, vectors, point, kind, values)
+}

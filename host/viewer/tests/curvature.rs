@@ -1,0 +1,249 @@
+//! Areas, mean curvature and one answer read back, against the reference: numbers and the bits of every place of both rooms.
+
+mod tools;
+
+use reference::curvature::Answer;
+use tools::{extracted, Caller, Seed};
+
+fn bits(numbers: &[f64]) -> Vec<u64> {
+    numbers.iter().map(|number| number.to_bits()).collect()
+}
+
+fn held(length: usize) -> Vec<f64> {
+    (0..length).map(|i| -1.5 - i as f64).collect()
+}
+
+/// One call on both sides with rooms of these lengths; answers the number and both rooms.
+fn same_in(mesh: &Caller, areas: usize, vectors: usize) -> (u32, Vec<f64>, Vec<f64>) {
+    let (mut proved, mut proved_vectors) = (held(areas), held(vectors));
+    let (mut plain, mut plain_vectors) = (held(areas), held(vectors));
+    let number = viewer::curvature(mesh.lent(), &mut proved, &mut proved_vectors);
+    let expected = reference::curvature::curvature(
+        &mesh.points,
+        &mesh.triangles,
+        &mesh.marks,
+        &mut plain,
+        &mut plain_vectors,
+    );
+    assert_eq!(number, expected);
+    assert_eq!(bits(&proved), bits(&plain));
+    assert_eq!(bits(&proved_vectors), bits(&plain_vectors));
+    if number != 0 {
+        assert_eq!((&proved, &proved_vectors), (&held(areas), &held(vectors)));
+    }
+    (number, proved, proved_vectors)
+}
+
+/// A granted call, and every point's answer read back on both sides.
+fn same(mesh: &Caller) -> (Vec<f64>, Vec<f64>) {
+    let count = mesh.marks.len();
+    let (number, areas, vectors) = same_in(mesh, count, 3 * count);
+    assert_eq!(number, 0);
+    for point in 0..count as u32 {
+        same_answer(&mesh.marks, &areas, &vectors, point);
+    }
+    (areas, vectors)
+}
+
+/// One answer read back on both sides; answers the number and the kind.
+fn same_answer(marks: &[u8], areas: &[f64], vectors: &[f64], point: u32) -> (u32, u32) {
+    let mut kind = 77;
+    let mut values = [-9.25; 4];
+    let number = viewer::answer(marks, areas, vectors, point, &mut kind, &mut values);
+    let (expected, expected_kind, expected_values) =
+        match reference::curvature::answer(marks, areas, vectors, point) {
+            Err(number) => (number, 77, [-9.25; 4]),
+            Ok(Answer::Open(area)) => (0, 0, [area, 0.0, 0.0, 0.0]),
+            Ok(Answer::Flat) => (0, 1, [0.0; 4]),
+            Ok(Answer::Bent(area, [x, y, z])) => (0, 2, [area, x, y, z]),
+        };
+    assert_eq!((number, kind), (expected, expected_kind), "point {point}");
+    assert_eq!(bits(&values), bits(&expected_values), "point {point}");
+    (number, kind)
+}
+
+fn smoothed(mesh: &Caller, rounds: u32, weight: u32) -> Caller {
+    let mut second = vec![0; mesh.points.len()];
+    let mut work = vec![0; 6 * (mesh.triangles.len() / 3) + 5 * mesh.marks.len() + 1];
+    assert_eq!(
+        viewer::smooth(mesh.lent(), rounds, weight, &mut second, &mut work),
+        0
+    );
+    Caller {
+        points: second,
+        ..mesh.clone()
+    }
+}
+
+#[test]
+fn extracted_meshes_raw_and_smoothed() {
+    let mut seed = Seed::new(31);
+    for sides in [[4, 4, 4], [7, 5, 6], [2, 9, 3], [12, 12, 12]] {
+        for bound in [2, 200, 65_536] {
+            let mesh = extracted(&mut seed, sides, bound);
+            same(&mesh);
+            same(&smoothed(&mesh, 1, 256));
+            same(&smoothed(&mesh, 10, 128));
+        }
+    }
+}
+
+#[test]
+fn the_figure_of_document_01() {
+    let mut samples = vec![0; 27];
+    samples[13] = 100;
+    let mesh = smoothed(&tools::mesh_of([3, 3, 3], 50, &samples), 1, 256);
+    let (areas, vectors) = same(&mesh);
+    for point in 0..6 {
+        assert_eq!(same_answer(&mesh.marks, &areas, &vectors, point), (0, 1));
+    }
+}
+
+#[test]
+fn one_right_triangle() {
+    let mesh = Caller {
+        points: vec![0, 0, 0, 256, 0, 0, 0, 256, 0],
+        triangles: vec![0, 1, 2],
+        marks: vec![1; 3],
+    };
+    let (areas, vectors) = same(&mesh);
+    assert_eq!(areas, [16_384.0, 8_192.0, 8_192.0]);
+    assert_eq!(bits(&vectors), [0; 9]);
+}
+
+/// Points whose coordinates are made up by a rule, and triangles between them.
+fn made_up(
+    seed: &mut Seed,
+    count: u64,
+    triangles: usize,
+    place: &dyn Fn(&mut Seed) -> u32,
+) -> Caller {
+    let points = (0..3 * count).map(|_| place(seed)).collect();
+    let named = (0..triangles)
+        .flat_map(|_| {
+            let first = seed.below(count) as u32;
+            let second = (first + 1 + seed.below(count - 2) as u32) % count as u32;
+            let third = (0..count as u32)
+                .cycle()
+                .skip(seed.below(count) as usize)
+                .find(|&p| p != first && p != second)
+                .unwrap();
+            [first, second, third]
+        })
+        .collect();
+    let marks = (0..count).map(|_| (seed.below(4) == 0) as u8).collect();
+    Caller {
+        points,
+        triangles: named,
+        marks,
+    }
+}
+
+#[test]
+fn slivers_obtuse_right_and_flat_triangles() {
+    let mut seed = Seed::new(32);
+    let rules: [&dyn Fn(&mut Seed) -> u32; 5] = [
+        &|seed| seed.below(16_129) as u32,
+        &|seed| seed.below(3) as u32,
+        &|seed| 16_126 + seed.below(3) as u32,
+        &|seed| 16_128 * seed.below(2) as u32,
+        &|seed| 256 * seed.below(5) as u32,
+    ];
+    for place in rules {
+        for (count, triangles) in [(3, 1), (4, 6), (40, 150), (300, 900)] {
+            for _ in 0..4 {
+                same(&made_up(&mut seed, count, triangles, place));
+            }
+        }
+    }
+}
+
+#[test]
+fn no_points_and_no_triangles() {
+    let none = Caller {
+        points: vec![],
+        triangles: vec![],
+        marks: vec![],
+    };
+    same(&none);
+    let lone = Caller {
+        points: vec![5; 12],
+        triangles: vec![],
+        marks: vec![0, 1, 0, 1],
+    };
+    let (areas, vectors) = same(&lone);
+    assert_eq!(bits(&areas), [0; 4]);
+    assert_eq!(bits(&vectors), [0; 12]);
+}
+
+/// Each refusal made true or not, all 32 ways: the first that is true in the order 6, 7, 8, 9, 3 is answered.
+#[test]
+fn refusals_in_order() {
+    let mut seed = Seed::new(33);
+    let whole = extracted(&mut seed, [3, 3, 3], 50);
+    for wrong in 0..32u32 {
+        let is = |bit: u32| wrong >> bit & 1 == 1;
+        let mut mesh = whole.clone();
+        let count = mesh.marks.len();
+        if is(1) {
+            mesh.triangles[4] = mesh.triangles[5];
+        }
+        if is(2) {
+            *mesh.points.last_mut().unwrap() = 16_129;
+        }
+        if is(3) {
+            mesh.marks[0] = 2;
+        }
+        if is(0) {
+            mesh.triangles.push(0);
+        }
+        let first = [6, 7, 8, 9, 3]
+            .iter()
+            .enumerate()
+            .find(|(bit, _)| is(*bit as u32))
+            .map_or(0, |(_, &number)| number);
+        let off = usize::from(is(4));
+        for (areas, vectors) in [
+            (count + off, 3 * count),
+            (count, 3 * count - off),
+            (count - off, 3 * count + off),
+        ] {
+            assert_eq!(same_in(&mesh, areas, vectors).0, first);
+        }
+    }
+}
+
+#[test]
+fn an_answer_read_back_from_any_rooms() {
+    let odd = [0.0, -0.0, f64::NAN, f64::INFINITY, -3.5, 1e-320, 7.0];
+    for marks in 0..=3usize {
+        for areas in 0..=3usize {
+            for vectors in [0, 1, 3, 6, 8, 9] {
+                for point in [0, 1, 2, 3, u32::MAX] {
+                    for mark in [0, 1, 2, 255] {
+                        for shift in 0..odd.len() {
+                            let pick = |length: usize| -> Vec<f64> {
+                                (0..length).map(|i| odd[(i + shift) % odd.len()]).collect()
+                            };
+                            let (number, kind) = same_answer(
+                                &vec![mark; marks],
+                                &pick(areas),
+                                &pick(vectors),
+                                point,
+                            );
+                            let fits = areas == marks && vectors == 3 * marks;
+                            let expected = match (fits, (point as usize) < marks, mark < 2) {
+                                (false, _, _) => 6,
+                                (true, false, _) => 14,
+                                (true, true, false) => 9,
+                                (true, true, true) => 0,
+                            };
+                            assert_eq!(number, expected);
+                            assert_eq!(kind == 77, number != 0);
+                        }
+                    }
+                }
+            }
+        }
+    }
+}
