@@ -173,6 +173,32 @@ fn smoothing(mesh: viewer::Mesh<'_>, rounds: u32, times: &BTreeMap<String, f64>)
     );
 }
 
+fn curvature(mesh: viewer::Mesh<'_>, times: &BTreeMap<String, f64>) {
+    let runs = RUNS.div_ceil(10);
+    let mut areas = vec![1.0; mesh.marks.len()];
+    let mut vectors = vec![1.0; mesh.points.len()];
+    let proved = median(runs, || {
+        assert_eq!(viewer::curvature(mesh, &mut areas, &mut vectors), 0);
+    });
+    let plain = median(runs, || {
+        reference::curvature::curvature(
+            mesh.points,
+            mesh.triangles,
+            mesh.marks,
+            &mut areas,
+            &mut vectors,
+        );
+    });
+    let name = "vtkCurvatures";
+    say(
+        "Areas and mean curvature",
+        proved,
+        plain,
+        ("triangle", mesh.triangles.len() / 3),
+        &[(name, times.get(name).copied())],
+    );
+}
+
 fn main() -> Result<(), Failure> {
     let program = std::env::args().nth(1);
     let mut rooms = Rooms::new();
@@ -197,6 +223,7 @@ fn main() -> Result<(), Failure> {
         for rounds in [10, 100] {
             smoothing(mesh, rounds, &times);
         }
+        curvature(mesh, &times);
     }
     Ok(())
 }

@@ -1,5 +1,6 @@
 // vtk_bench FILE GREY RUNS: the median milliseconds of VTK's filters on one thread, a line each with the filter's name, on a volume of 64 samples
 // a side. Points and triangles only, as the library gives them: no normals, gradients or scalars. The filters on a mesh take vtkFlyingEdges3D's.
+#include <vtkCurvatures.h>
 #include <vtkFlyingEdges3D.h>
 #include <vtkImageData.h>
 #include <vtkMarchingCubes.h>
@@ -48,6 +49,13 @@ static void smooth(const char *name, vtkPolyData *mesh, int rounds, int runs) {
   median(name, filter.Get(), runs);
 }
 
+static void curvatures(vtkPolyData *mesh, int runs) {
+  vtkNew<vtkCurvatures> filter;
+  filter->SetInputData(mesh);
+  filter->SetCurvatureTypeToMean();
+  median("vtkCurvatures", filter.Get(), runs);
+}
+
 int main(int argc, char **argv) {
   if (argc != 4)
     return 2;
@@ -71,5 +79,6 @@ int main(int argc, char **argv) {
   int fewer = (runs + 9) / 10;
   smooth("vtkSmoothPolyDataFilter,10", edges->GetOutput(), 10, fewer);
   smooth("vtkSmoothPolyDataFilter,100", edges->GetOutput(), 100, fewer);
+  curvatures(edges->GetOutput(), fewer);
   return 0;
 }
