@@ -1,5 +1,5 @@
 -- Law, Numbered, Pattern and Cells: from the law of cells to the balance between points, for cells cut in any way. Cubes and Rim put cubes under it.
--- Balance: the mesh that document 01 defines. Granted, Promised and Passes: what the extractor left in the lent rooms. Shell: a closed shell. Fourfold and
+-- Balance: the mesh that document 01 defines. Granted, Promised and Passes: what the extractor left in the lent rooms. Smoothing: what smoothing left in its. Shell: a closed shell. Fourfold and
 -- Slit: two examples.
 pub mod Law
 pub mod Numbered
@@ -11,6 +11,7 @@ pub mod Balance
 pub mod Granted
 pub mod Promised
 pub mod Passes
+pub mod Smoothing
 pub mod Shell
 pub mod Fourfold
 pub mod Slit
