@@ -19,6 +19,7 @@ second-is-smoothed m k w second work after left h = go (eqb number 0) refl h
   where
     number : ℕ
     number = smoothNumber (m .points) (m .triangles) (m .marks) k w second work
+
     go : (b : Bool) → eqb number 0 ≡ b
         → _≡_ {A = Outcome} (record { number = 0; second = after; work = left })
         (cond b (record { number = 0; second = rounds (trianglesOf (m .triangles)) (m .marks) w k (m .points); work = replicate (length work) 0 }) (record { number = number; second = second; work = work }))
