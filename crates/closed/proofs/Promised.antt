@@ -1,8 +1,8 @@
 -- The balance as a reader of the extractor's promise has it: of the triangles in the lent room, for the grid edges and marks in theirs.
 use mathlib.Core.Path.{_≡_, refl, ap, sym, _∙_}
-use mathlib.Core.List.{List, [], _∷_, map}
+use mathlib.Core.List.{List}
 use mathlib.Core.Bool.{false, _&&_, and-false}
-use Prim.Native.Nat.{ℕ, zero, suc, _<_, _≤_}
+use Prim.Native.Nat.{ℕ, _<_, _≤_}
 use native.Mathlib.Decide.{decLt}
 use native.Mathlib.Omega.{arith}
 use lib.Dec.{eqb}
@@ -11,6 +11,7 @@ use borrow.Author.Tests.{ne-eqb}
 use Rattle.laws.specs.Range.{one-if}
 use Rattle.laws.specs.Sum.{All}
 use Rattle.laws.specs.Mesh.{sides}
+use Rattle.laws.proofs.Lists.{map-at}
 use Rattle.laws.proofs.Sums.{all-weaken}
 use Rattle.cube.proofs.Way.{Ends}
 use Rattle.grid.specs.Grid.{axes, isAboveGrey, mark}
@@ -24,12 +25,6 @@ use Rattle.closed.specs.Left.{meshLeft, edgesLeft, smoothed}
 use Rattle.closed.proofs.Law.{ends-nothing}
 use Rattle.closed.proofs.Balance.{balanced, unmarked-balanced}
 use Rattle.closed.proofs.Granted.{Granted, left-granted, triangles-of-flat}
-
--- what is read of a list that was mapped
-mapped-at : {A B : Type 0} (f : A → B) (xs : List A) (i : ℕ) (d : A) (e : B) → i < length xs → getD (map f xs) i e ≡ f (getD xs i d)
-mapped-at f [] i d e l = absurd (omega arith)
-mapped-at f (x ∷ xs) zero d e l = refl
-mapped-at f (x ∷ xs) (suc i) d e l = mapped-at f xs i d e (omega arith)
 
 module _ (nx ny nz grey : ℕ) (samples : List ℕ) (before : Rooms) (after : Outcome) (extracts : Extracts nx ny nz grey samples before after)
     (none : after .number ≡ 0) where
@@ -55,7 +50,7 @@ module _ (nx ny nz grey : ℕ) (samples : List ℕ) (before : Rooms) (after : Ou
       let points = pointList n grey samples before in
       let below : p < length points = omega (arith, l, ap length (left .marks-are), length-map points (mark axes n)) in
       let unmarked : mark axes n (getD points p 0) ≡ 0
-      = sym (mapped-at (mark axes n) points p 0 0 below) ∙ ap (λ ms. getD ms p 0) (sym (left .marks-are)) ∙ m in
+      = sym (map-at (mark axes n) points p 0 0 below) ∙ ap (λ ms. getD ms p 0) (sym (left .marks-are)) ∙ m in
       unmarked-balanced n (isAboveGrey grey samples) (fit .least-x) (fit .least-y) (fit .least-z) p q unmarked
 
   -- no side has an end at or above V

@@ -1,9 +1,9 @@
 -- The bits of a number that was put together from bits are those bits.
-use mathlib.Core.Path.{_≡_}
+use mathlib.Core.Path.{_≡_, refl}
 use mathlib.Core.List.{List, [], _∷_}
-use mathlib.Core.Bool.{Bool, true, false}
+use mathlib.Core.Bool.{Bool, true, false, not, xor}
 use Prim.Native.Nat.{ℕ, zero, suc, _+_, _*_, _/_, _%_, _^_, _<_, _≤_}
-use native.Mathlib.Nat.{pow-suc}
+use native.Mathlib.Nat.{pow-suc, mul-le-mul-right}
 use native.Mathlib.Omega.{arith}
 use lib.Dec.{eqb}
 use lib.ListN.{length, getD}
@@ -33,3 +33,20 @@ bit-of-bits (b ∷ bs) (suc i) l = rw (rest b (bits bs)) (bit-of-bits bs i (omeg
 pub bit-le : (b : Bool) → one-if b ≤ 1
 bit-le true = omega arith
 bit-le false = omega arith
+
+-- two remainders by 2 differ when one of them is 1 and the other not
+pub odd-differ : (p q : ℕ) → p < 2 → q < 2 → not (eqb p q) ≡ xor (eqb p 1) (eqb q 1)
+unfolding xor
+odd-differ zero zero hp hq = refl
+odd-differ zero (suc zero) hp hq = refl
+odd-differ zero (suc (suc q)) hp hq = absurd (omega arith)
+odd-differ (suc zero) zero hp hq = refl
+odd-differ (suc zero) (suc zero) hp hq = refl
+odd-differ (suc zero) (suc (suc q)) hp hq = absurd (omega arith)
+odd-differ (suc (suc p)) q hp hq = absurd (omega arith)
+
+-- a bit of a number times another is at most that other
+pub bit-times : (k n : ℕ) → k % 2 * n ≤ n
+bit-times k n =
+    let small : k % 2 ≤ 1 = omega arith in
+    omega (arith, mul-le-mul-right n small)

@@ -1,12 +1,13 @@
 -- Cells stand in a box, and something flows each way through the faces between them. Nothing here knows what a cell or a face is.
 use mathlib.Core.Path.{_≡_, _∙_}
-use mathlib.Core.List.{List, [], _++_}
+use mathlib.Core.List.{List, [], _++_, map, flatMap}
 use mathlib.Core.Bool.{Bool, true, false}
 use Prim.Native.Nat.{ℕ, zero, suc, _+_, _<_}
 use native.Mathlib.Numerals.{add-one}
 use native.Mathlib.Omega.{arith}
+use lib.ListN.{length}
 use Rattle.laws.specs.Range.{sumTo, joinTo, joinBox}
-use Rattle.laws.proofs.Ranges.{sum-cong, sum-add, sum-none}
+use Rattle.laws.proofs.Ranges.{sum-cong, sum-add, sum-none, join-cong, length-join, map-join, flat-join}
 
 -- moved on by one, a sum loses its first term and gains one past its last
 pub sum-shift : (n : ℕ) (f : ℕ → ℕ) → sumTo n f + f n ≡ f 0 + sumTo n (λ i. f (i + 1))
@@ -28,9 +29,9 @@ module _ (nx ny nz : ℕ) where
   unfoldable pub sumBox : (ℕ → ℕ → ℕ → ℕ) → ℕ
   sumBox f = sumTo nz (λ z. sumTo ny (λ y. sumTo nx (λ x. f x y z)))
 
-  box-cong : (f g : ℕ → ℕ → ℕ → ℕ) → ((x y z : ℕ) → x < nx → y < ny → z < nz → f x y z ≡ g x y z) → sumBox f ≡ sumBox g
+  pub sum-box-cong : (f g : ℕ → ℕ → ℕ → ℕ) → ((x y z : ℕ) → x < nx → y < ny → z < nz → f x y z ≡ g x y z) → sumBox f ≡ sumBox g
   unfolding sumBox
-  box-cong f g h = sum-cong nz _ _ (λ z hz. sum-cong ny _ _ (λ y hy. sum-cong nx _ _ (λ x hx. h x y z hx hy hz)))
+  sum-box-cong f g h = sum-cong nz _ _ (λ z hz. sum-cong ny _ _ (λ y hy. sum-cong nx _ _ (λ x hx. h x y z hx hy hz)))
 
   box-add : (f g : ℕ → ℕ → ℕ → ℕ) → sumBox (λ x y z. f x y z + g x y z) ≡ sumBox f + sumBox g
   unfolding sumBox
@@ -105,7 +106,7 @@ module _ (nx ny nz : ℕ) where
     box-even cell shut =
         omega (
           arith,
-          box-cong _ _ cell,
+          sum-box-cong _ _ cell,
           add7 (made true) (u false) (λ x y z. u true (x + 1) y z) (v false) (λ x y z. v true x (y + 1) z) (t false) (λ x y z. t true x y (z + 1)),
           add7 (made false) (u true) (λ x y z. u false (x + 1) y z) (v true) (λ x y z. v false x (y + 1) z) (t true) (λ x y z. t false x y (z + 1)),
           shift-x (u true) (shut .x-first true) (shut .x-last true),
@@ -115,3 +116,37 @@ module _ (nx ny nz : ℕ) where
           shift-z (t true) (shut .z-first true) (shut .z-last true),
           shift-z (t false) (shut .z-first false) (shut .z-last false),
         )
+
+-- lists joined over the cells of a box
+module _ {A : Type 0} (nx ny nz : ℕ) where
+  pub length-box : (f : ℕ → ℕ → ℕ → List A) → length (joinBox nx ny nz f) ≡ sumTo nz (λ z. sumTo ny (λ y. sumTo nx (λ x. length (f x y z))))
+  unfolding joinBox
+  length-box f =
+      length-join nz (λ z. joinTo ny (λ y. joinTo nx (λ x. f x y z)))
+      ∙ sum-cong nz (λ z. length (joinTo ny (λ y. joinTo nx (λ x. f x y z)))) (λ z. sumTo ny (λ y. sumTo nx (λ x. length (f x y z))))
+      (λ z lz. length-join ny (λ y. joinTo nx (λ x. f x y z))
+      ∙ sum-cong ny (λ y. length (joinTo nx (λ x. f x y z))) (λ y. sumTo nx (λ x. length (f x y z))) (λ y ly. length-join nx (λ x. f x y z)))
+
+  pub join-box-cong : (f g : ℕ → ℕ → ℕ → List A) → ((x y z : ℕ) → x < nx → y < ny → z < nz → f x y z ≡ g x y z)
+      → joinBox nx ny nz f ≡ joinBox nx ny nz g
+  unfolding joinBox
+  join-box-cong f g h =
+      join-cong nz (λ z. joinTo ny (λ y. joinTo nx (λ x. f x y z))) (λ z. joinTo ny (λ y. joinTo nx (λ x. g x y z)))
+      (λ z lz. join-cong ny (λ y. joinTo nx (λ x. f x y z)) (λ y. joinTo nx (λ x. g x y z))
+      (λ y ly. join-cong nx (λ x. f x y z) (λ x. g x y z) (λ x lx. h x y z lx ly lz)))
+
+  pub map-box : {B : Type 0} (g : A → B) (f : ℕ → ℕ → ℕ → List A) → map g (joinBox nx ny nz f) ≡ joinBox nx ny nz (λ x y z. map g (f x y z))
+  unfolding joinBox
+  map-box g f =
+      map-join g nz (λ z. joinTo ny (λ y. joinTo nx (λ x. f x y z)))
+      ∙ join-cong nz (λ z. map g (joinTo ny (λ y. joinTo nx (λ x. f x y z)))) (λ z. joinTo ny (λ y. joinTo nx (λ x. map g (f x y z))))
+      (λ z lz. map-join g ny (λ y. joinTo nx (λ x. f x y z))
+      ∙ join-cong ny (λ y. map g (joinTo nx (λ x. f x y z))) (λ y. joinTo nx (λ x. map g (f x y z))) (λ y ly. map-join g nx (λ x. f x y z)))
+
+  pub flat-box : {B : Type 0} (g : A → List B) (f : ℕ → ℕ → ℕ → List A) → flatMap g (joinBox nx ny nz f) ≡ joinBox nx ny nz (λ x y z. flatMap g (f x y z))
+  unfolding joinBox
+  flat-box g f =
+      flat-join g nz (λ z. joinTo ny (λ y. joinTo nx (λ x. f x y z)))
+      ∙ join-cong nz (λ z. flatMap g (joinTo ny (λ y. joinTo nx (λ x. f x y z)))) (λ z. joinTo ny (λ y. joinTo nx (λ x. flatMap g (f x y z))))
+      (λ z lz. flat-join g ny (λ y. joinTo nx (λ x. f x y z))
+      ∙ join-cong ny (λ y. flatMap g (joinTo nx (λ x. f x y z))) (λ y. joinTo nx (λ x. flatMap g (f x y z))) (λ y ly. flat-join g nx (λ x. f x y z)))

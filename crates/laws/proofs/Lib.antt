@@ -5,6 +5,7 @@ pub mod Box
 pub mod Keep
 pub mod Rows
 pub mod Sums
+pub mod Lists
 pub mod Some
 pub mod Rearranged
 pub mod Binary

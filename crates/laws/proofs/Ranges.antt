@@ -183,3 +183,9 @@ pub sum-most : (b n : ℕ) (f : ℕ → ℕ) → ((i : ℕ) → i < n → f i �
 unfolding sumTo
 sum-most b zero f h = omega arith
 sum-most b (suc n) f h = omega (arith, sum-most b n f (λ i l. h i (omega arith)), h n (omega arith), mul-suc b n)
+
+-- what stands up to a number below n is no longer than the whole
+pub join-room : {A : Type 0} (i n : ℕ) (f : ℕ → List A) → i < n → length (joinTo i f) + length (f i) ≤ length (joinTo n f)
+join-room i n f h =
+    let e : n ≡ i + 1 + (n - (i + 1)) = omega arith in
+    rw (e, join-split (i + 1) (n - (i + 1)) f, join-next i f, length-append, length-append) (omega arith)

@@ -1,16 +1,18 @@
 -- What arrows and the sides of triangles weigh together: joined, turned round, renamed, rearranged. Each law holds for every weight.
 use mathlib.Core.Path.{_≡_, refl, ap, ap₂, _∙_}
-use mathlib.Core.List.{List, [], _∷_, _++_, map}
+use mathlib.Core.List.{List, [], _∷_, _++_, map, flatMap}
 use mathlib.Core.Bool.{true}
-use Prim.Native.Nat.{ℕ, zero, suc, _+_}
+use Prim.Native.Nat.{ℕ, zero, suc, _+_, _*_}
 use native.Mathlib.Omega.{arith}
 use lib.Dec.{eqb}
 use borrow.Author.Tests.{eqb-true}
+use lib.ListN.{length}
 use Rattle.laws.specs.Range.{joinTo}
 use Rattle.laws.specs.Sum.{sumOf, All}
 use Rattle.laws.specs.Order.{rearranged}
-use Rattle.laws.specs.Mesh.{Arrow, arrow, sameArrow, flip, Triangle, rename, sides, total}
+use Rattle.laws.specs.Mesh.{Arrow, arrow, sameArrow, flip, Triangle, rename, sides, total, cornersOf, flat}
 use Rattle.laws.proofs.Tests.{both}
+use Rattle.laws.proofs.Ranges.{length-flat}
 use Rattle.laws.proofs.Sums.{sum-append, sum-map}
 use Rattle.laws.proofs.Rearranged.{sum-rearranged}
 
@@ -54,3 +56,21 @@ pub sides-join : (n : ℕ) (f : ℕ → List Triangle) → sides (joinTo n f) �
 unfolding joinTo sides
 sides-join zero f = refl
 sides-join (suc n) f = sides-append (joinTo n f) (f n) ∙ ap (λ xs. xs ++ sides (f n)) (sides-join n f)
+
+-- Corners in a list of numbers.
+
+pub length-corners : (ts : List Triangle) → length (flat ts) ≡ 3 * length ts
+unfolding flat
+length-corners ts = length-flat 3 cornersOf (λ t. refl) ts
+
+-- corners renamed before or after they are put in a list
+pub flat-renamed : (f : ℕ → ℕ) (ts : List Triangle) → flat (map (rename f) ts) ≡ map f (flat ts)
+unfolding flat flatMap
+flat-renamed f [] = refl
+flat-renamed f (t ∷ ts) = ap (λ xs. f (t .one) ∷ f (t .two) ∷ f (t .three) ∷ xs) (flat-renamed f ts)
+
+-- each corner starts a side
+pub corners-start : (P : ℕ → Type 0) (ts : List Triangle) → All (λ s. P (s .from)) (sides ts) → All P (flat ts)
+unfolding flat flatMap sides
+corners-start P [] a = tt
+corners-start P (t ∷ ts) a = (a .0, (a .1 .0, (a .1 .1 .0, corners-start P ts (a .1 .1 .1))))

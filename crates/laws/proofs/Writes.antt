@@ -1,12 +1,14 @@
 -- A run of elements written into a room from a place on, and two runs one after the other.
 use mathlib.Core.Path.{_≡_, refl, _∙_}
-use mathlib.Core.List.{List, [], _∷_, _++_}
-use Prim.Native.Nat.{ℕ, zero, suc, _+_, _<_, _≤_}
-use native.Mathlib.Nat.{add-zero}
+use mathlib.Core.List.{List, [], _∷_, _++_, map, flatMap, map-append}
+use Prim.Native.Nat.{ℕ, zero, suc, _+_, _*_, _<_, _≤_}
+use native.Mathlib.Numerals.{add-one}
+use native.Mathlib.Nat.{add-zero, mul-add}
 use native.Mathlib.Omega.{arith}
-use lib.ListN.{length, getD, set, length-set}
-use lib.Seq.{sets, sets-eq, getD-set-same, getD-set-other}
+use lib.ListN.{length, getD, take, set, length-set, length-map}
+use lib.Seq.{sets, sets-eq, take-suc, length-take-le, getD-set-same, getD-set-other}
 use Rattle.laws.specs.Room.{laid}
+use Rattle.laws.proofs.Ranges.{flat-append, length-flat}
 
 module _ {A : Type 0} where
   pub sets-append : (room : List A) (i : ℕ) (xs ys : List A) → sets (sets room i xs) (i + length xs) ys ≡ sets room i (xs ++ ys)
@@ -37,3 +39,24 @@ module _ {A : Type 0} where
   sets-at room i (x ∷ xs) (suc j) d h l =
       let e : i + suc j ≡ suc i + j = omega arith in
       rw e (sets-at (set room i x) (suc i) xs j d (rw (length-set room i x) (omega arith)) (omega arith))
+
+-- one element more of a list that is written from a place on
+pub sets-next : {A : Type 0} (room : List A) (i : ℕ) (xs : List A) (j : ℕ) (d : A) → j < length xs
+    → set (sets room i (take j xs)) (i + j) (getD xs j d) ≡ sets room i (take (j + 1) xs)
+sets-next room i xs j d l =
+    let s : sets (sets room i (take j xs)) (i + length (take j xs)) (getD xs j d ∷ []) ≡ sets room i (take j xs ++ (getD xs j d ∷ [])) =
+    sets-append room i (take j xs) (getD xs j d ∷ []) in
+    rw (add-one j, take-suc xs j d l) (rw (length-take-le j xs (omega arith)) at s)
+
+-- what elements become, written where what others became ended: one place each, or as many as the width
+pub map-sets : {A B : Type 0} (g : A → B) (room : List B) (n next : ℕ) (xs ys : List A) → next ≡ n + length xs
+    → sets (sets room n (map g xs)) next (map g ys) ≡ sets room n (map g (xs ++ ys))
+map-sets g room n next xs ys is =
+    let at : next ≡ n + length (map g xs) = omega (arith, length-map xs g) in
+    rw (at, map-append g xs ys) (sets-append room n (map g xs) (map g ys))
+
+pub flat-sets : {A B : Type 0} (width : ℕ) (g : A → List B) → ((a : A) → length (g a) ≡ width) → (room : List B) (n next : ℕ) (xs ys : List A)
+    → next ≡ n + length xs → sets (sets room (width * n) (flatMap g xs)) (width * next) (flatMap g ys) ≡ sets room (width * n) (flatMap g (xs ++ ys))
+flat-sets width g even room n next xs ys is =
+    let at : width * next ≡ width * n + length (flatMap g xs) = rw is (omega (arith, length-flat width g even xs, mul-add width n (length xs))) in
+    rw (at, flat-append g xs ys) (sets-append room (width * n) (flatMap g xs) (flatMap g ys))

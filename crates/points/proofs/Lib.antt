@@ -1,6 +1,5 @@
--- Lemmas of the walk over a grid's rows: general laws; what is small and where rows begin; crossed edges by masks; the busy samples of a row; the numbering; marks; the
+-- Lemmas of the walk over a grid's rows: what is small and where rows begin; crossed edges by masks; the busy samples of a row; the numbering; marks; the
 -- placing; the ends of a crossed edge.
-pub mod General
 pub mod Bounds
 pub mod Cut
 pub mod Busy

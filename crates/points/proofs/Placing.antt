@@ -25,7 +25,8 @@ use Rattle.points.specs.Numbers.{nextNumber}
 use Rattle.points.specs.Places.{Rooms, coordinates, written, withPoint, stepOf, pointBy, pointFrom, pointAt, pointsBelow, countBelow, RoomsFor, Placeable, SamplePlaced, Advanced}
 use Rattle.points.proofs.Cut.{Tested}
 use Rattle.laws.proofs.Ranges.{count-none, keep-none}
-use Rattle.points.proofs.General.{flat-map, flat-sets, map-sets}
+use Rattle.laws.proofs.Lists.{flat-map}
+use Rattle.laws.proofs.Writes.{flat-sets, map-sets}
 
 -- the offset of samples of sixteen bits is far below what a coordinate's type holds
 pub offset-small : (v0 v1 grey : ℕ) → v0 < 2 ^ 16 → v1 < 2 ^ 16 → grey < 2 ^ 16 → offset v0 v1 grey < 2 ^ 26

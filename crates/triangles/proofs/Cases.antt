@@ -28,7 +28,8 @@ use Rattle.grid.proofs.Digits.{low-div, low-mod}
 use Rattle.masks.specs.Masks.{maskAbove}
 use Rattle.triangles.specs.declared.RowMasks.{RowMasks}
 use Rattle.triangles.specs.Row.{masksAt, rowCase}
-use Rattle.triangles.proofs.General.{two-bits, corners-start}
+use Rattle.laws.proofs.Halves.{two-bits}
+use Rattle.laws.proofs.Sides.{corners-start}
 
 -- the masks give a byte
 pub row-case-small : (m : RowMasks) (x : ℕ) → rowCase m x < 256

@@ -13,7 +13,7 @@ use Rattle.grid.specs.Work.{size}
 use Rattle.masks.specs.Masks.{maskAbove}
 use Rattle.triangles.specs.Row.{masksAt, rowCase, rowCount, layerCount}
 use Rattle.laws.proofs.Ranges.{sum-most}
-use Rattle.triangles.proofs.General.{box-sum-cong, length-box}
+use Rattle.laws.proofs.Box.{sumBox, sum-box-cong, length-box}
 use Rattle.triangles.proofs.Cases.{case-of-masks}
 use Rattle.triangles.proofs.Steps.{layer-count-most}
 
@@ -38,11 +38,11 @@ module _ (nx ny : ℕ) (masks : List ℕ) where
 
   -- cube by cube, the case that the masks give is the grid's
   pub mesh-count : (nz : ℕ) → gridCount nx ny (nz - 1) masks ≡ length (edgeMesh (size nx ny nz) (maskAbove nx masks))
-  unfolding gridCount layerCount rowCount count edgeMesh cubeTriangles
+  unfolding gridCount layerCount rowCount count edgeMesh cubeTriangles sumBox
   mesh-count nz =
       let n = size nx ny nz in
       let above = maskAbove nx masks in
-      box-sum-cong (nx - 1) (ny - 1) (nz - 1) (λ x y z. count (rowCase (masksAt masks ny (ny * z + y)) x)) (λ x y z. length (cubeTriangles n above x y z))
+      sum-box-cong (nx - 1) (ny - 1) (nz - 1) (λ x y z. count (rowCase (masksAt masks ny (ny * z + y)) x)) (λ x y z. length (cubeTriangles n above x y z))
       (λ x y z lx ly lz. ap count (case-of-masks nx ny nz masks x y z (omega arith))
       ∙ sym (length-map (triangles (caseAt n above x y z)) (rename (gridEdge n x y z))))
       ∙ sym (length-box (nx - 1) (ny - 1) (nz - 1) (cubeTriangles n above))

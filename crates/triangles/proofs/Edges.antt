@@ -15,7 +15,7 @@ use Rattle.grid.specs.Grid.{Size, site}
 use Rattle.grid.specs.Mesh.{cornerSite, gridEdge}
 use Rattle.grid.proofs.Sites.{site-add}
 use Rattle.triangles.specs.Row.{edgeOffset}
-use Rattle.triangles.proofs.General.{map-at}
+use Rattle.laws.proofs.Lists.{map-at}
 
 -- edge e stands in the list of edges at e
 every-edge-listed : allTo 12 (λ e. eqb (getD cubeEdges e 0) e) ≡ true

@@ -1,6 +1,5 @@
--- What the functions' proofs cite: general laws; the cases of a row; a step of the walk and what it counts; the cubes of a row that are busy, and the
+-- What the functions' proofs cite: the cases of a row; a step of the walk and what it counts; the cubes of a row that are busy, and the
 -- walk from one to the next; the count of the grid; the numbers that are written; the edges of a cube as grid edges; the mesh.
-pub mod General
 pub mod Cases
 pub mod Steps
 pub mod Busy

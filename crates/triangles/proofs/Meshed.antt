@@ -21,7 +21,10 @@ use Rattle.grid.specs.Work.{size, Numbered}
 use Rattle.masks.specs.Masks.{maskAbove}
 use Rattle.triangles.specs.Row.{masksAt, rowCase, edgeOffset, cubeNumbers, rowNumbers, layerNumbers}
 use Rattle.triangles.specs.Walk.{LayerRoom, Written}
-use Rattle.triangles.proofs.General.{box-cong, map-box, flat-box, map-cong, length-corners, flat-renamed, join-room}
+use Rattle.laws.proofs.Ranges.{join-room}
+use Rattle.laws.proofs.Box.{join-box-cong, map-box, flat-box}
+use Rattle.laws.proofs.Lists.{map-cong}
+use Rattle.laws.proofs.Sides.{length-corners, flat-renamed}
 use Rattle.triangles.proofs.Cases.{corners-crossed, case-of-masks}
 use Rattle.grid.proofs.Edges.{grid-edge-small, grid-edge-crossed}
 use Rattle.triangles.proofs.Edges.{offset-at, edge-place}
@@ -75,7 +78,7 @@ module _ (nx ny nz : ℕ) (masks : List ℕ) where
     pub grid-meshed : gridNumbers offsets work nx ny (nz - 1) masks ≡ flat (mesh n above)
     unfolding gridNumbers layerNumbers rowNumbers flat mesh edgeMesh joinBox
     grid-meshed =
-        box-cong (nx - 1) (ny - 1) (nz - 1)
+        join-box-cong (nx - 1) (ny - 1) (nz - 1)
         (λ x y z. cubeNumbers offsets work (3 * nx * (ny * z + y) + 3 * x) (rowCase (masksAt masks ny (ny * z + y)) x))
         (λ x y z. flat (map (rename (number axes n above)) (cubeTriangles n above x y z)))
         (λ x y z lx ly lz. cube-meshed x y z (omega arith) (omega arith) (omega arith))

@@ -14,7 +14,10 @@ use Rattle.cube.proofs.Cases.{CrossedEdge}
 use Rattle.triangles.specs.declared.RowMasks.{RowMasks}
 use Rattle.triangles.specs.Row.{masksAt, rowCase, cubeNumbers, rowNumbers, layerNumbers}
 use Rattle.triangles.specs.Walk.{CubeRoom, RowRoom, LayerRoom, Written}
-use Rattle.triangles.proofs.General.{all-get, map-at, length-corners, sets-next, join-room}
+use Rattle.laws.proofs.Ranges.{join-room}
+use Rattle.laws.proofs.Lists.{all-get, map-at}
+use Rattle.laws.proofs.Sides.{length-corners}
+use Rattle.laws.proofs.Writes.{sets-next}
 use Rattle.triangles.proofs.Cases.{corner-in-table, corners-crossed, row-case-small}
 
 -- a cube's numbers

@@ -5,7 +5,7 @@ use native.Mathlib.Omega.{arith}
 use borrow.Author.Needs.{needs}
 use Rattle.points.specs.Rows.{sizeOf}
 use Rattle.points.specs.Places.{pointBy}
-use Rattle.points.proofs.General.{bit-times}
+use Rattle.laws.proofs.Binary.{bit-times}
 use Rattle.points.proofs.Bounds.{samples-few, sample-small}
 use Rattle.points.proofs.Marks.{stands}
 use Rattle.points.proofs.places.point_on.Statement.{statement}

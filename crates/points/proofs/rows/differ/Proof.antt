@@ -2,7 +2,7 @@
 use Prim.Native.Nat.{_%_}
 use native.Mathlib.Omega.{arith}
 use borrow.Author.Needs.{needs}
-use Rattle.points.proofs.General.{odd-differ}
+use Rattle.laws.proofs.Binary.{odd-differ}
 use Rattle.points.proofs.rows.differ.Statement.{statement}
 use Rattle.points.proofs.rows.differ.Tie as tie
 
