@@ -12,4 +12,5 @@ pub mod Scan
 pub mod Nearest
 pub mod Rooms
 pub mod Writes
+pub mod Values
 pub mod Sides

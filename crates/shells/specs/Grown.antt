@@ -1,0 +1,65 @@
+-- Records that grow, point by point and triangle by triangle.
+use mathlib.Core.List.{List, []}
+use mathlib.Core.Bool.{cond, _||_}
+use Prim.Native.Nat.{ℕ, zero, suc, _+_, _<_, _^_, _≤_}
+use lib.Dec.{eqb}
+use lib.IntN.{ℤ, pos, _+ℤ_}
+use lib.ListN.{getD, set}
+use mir.Syntax.{w64}
+use mir.Val.{SFits}
+use Rattle.mesh.specs.Mesh.{triangleAt}
+use Rattle.shells.specs.declared.Shell.{Shell}
+use Rattle.shells.specs.Numbering.{numberOf}
+use Rattle.shells.specs.Record.{sixfold}
+
+-- the record of a shell with nothing in it
+abbrev pub none : Shell
+none = record { low = 0; points = 0; triangles = 0; touches = 0; volume = pos 0 }
+
+-- one point more, with its mark: the first is the lowest
+unfoldable pub withPoint : ℕ → ℕ → Shell → Shell
+withPoint p mark s =
+    record {
+      low = cond (eqb (s .points) 0) p (s .low);
+      points = s .points + 1;
+      triangles = s .triangles;
+      touches = cond (eqb mark 1) 1 (s .touches);
+      volume = s .volume;
+    }
+
+-- one triangle more, with its determinant
+unfoldable pub withTriangle : ℤ → Shell → Shell
+withTriangle d s =
+    record { low = s .low; points = s .points; triangles = s .triangles + 1; touches = s .touches; volume = s .volume +ℤ d }
+
+-- the record has room for one more
+unfoldable pub PointFits : Shell → Type 0
+PointFits s = s .points + 1 < 2 ^ 32
+
+pub record TriangleFits (d : ℤ) (s : Shell) : Type 0 where
+  pub count : s .triangles + 1 < 2 ^ 32
+  pub sum : SFits w64 (s .volume +ℤ d)
+
+-- record n of a list, changed
+abbrev pub changed : (Shell → Shell) → ℕ → List Shell → List Shell
+changed f n records = set records n (f (getD records n none))
+
+-- the first n records made empty
+abbrev pub emptied : ℕ → List Shell → List Shell
+emptied zero records = records
+emptied (suc n) records = set (emptied n records) n none
+
+-- j points added, each to the record of its number
+abbrev pub pointsAdded : List ℕ → List ℕ → ℕ → List Shell → List Shell
+pointsAdded marks numbers zero records = records
+pointsAdded marks numbers (suc j) records =
+    changed (withPoint j (getD marks j 0)) (numberOf numbers j) (pointsAdded marks numbers j records)
+
+-- k triangles added, each to the record of its first corner's number
+abbrev pub trianglesAdded : List ℕ → List ℕ → List ℕ → ℕ → List Shell → List Shell
+trianglesAdded points triangles numbers zero records = records
+trianglesAdded points triangles numbers (suc k) records =
+    changed
+    (withTriangle (sixfold points (triangleAt triangles k)))
+    (numberOf numbers (triangleAt triangles k .one))
+    (trianglesAdded points triangles numbers k records)
