@@ -1,6 +1,7 @@
 // Shells: points that triangle sides lead between, and a record of each shell.
 ghost use mathlib.Core.Path.{_≡_};
-ghost use mathlib.Core.Bool.{true};
+ghost use mathlib.Core.Bool.{true, cond};
+ghost use lib.Dec.{eqb};
 ghost use Prim.Native.Nat.{_+_, _*_, _<_, _≤_};
 ghost use lib.IntN.{_+ℤ_};
 ghost use lib.ListN.{length, getD};
@@ -106,6 +107,21 @@ fn number_at(numbers: &[u32], i: usize) -> usize
     sets::wide(numbers[i])
 }
 
+// The lowest of a shell's points: the first one that is added.
+fn lowest(points: u32, low: u32, i: usize) -> u32
+    requires { ⌜ i < mostPoints ⌝ }
+    ensures { λ r. ⌜ r ≡ cond (eqb points 0) i low ⌝ }
+{
+    if points == 0 { i as u32 } else { low }
+}
+
+// 1 once a marked point was added.
+fn touched(mark: u8, touches: u32) -> u32
+    ensures { λ r. ⌜ r ≡ cond (eqb mark 1) 1 touches ⌝ }
+{
+    if mark == 1 { 1 } else { touches }
+}
+
 // One point more, by value.
 fn with_point(s: Shell, marks: &[u8], i: usize) -> Shell
     requires { ⌜ PointFits s ⌝ }
@@ -113,19 +129,11 @@ fn with_point(s: Shell, marks: &[u8], i: usize) -> Shell
     requires { ⌜ length (now marks) ≤ mostPoints ⌝ }
     ensures { λ r. ⌜ r ≡ withPoint i (getD (now (marks .entry)) i 0) s ⌝ }
 {
-    let mut low = s.low;
-    if s.points == 0 {
-        low = i as u32;
-    }
-    let mut touches = s.touches;
-    if marks[i] == 1 {
-        touches = 1;
-    }
     Shell {
-        low,
+        low: lowest(s.points, s.low, i),
         points: s.points + 1,
         triangles: s.triangles,
-        touches,
+        touches: touched(marks[i], s.touches),
         volume: s.volume,
     }
 }
