@@ -5,6 +5,7 @@ pub mod Keep
 pub mod Rows
 pub mod Sums
 pub mod Rearranged
+pub mod Members
 pub mod Binary
 pub mod Halves
 pub mod Words

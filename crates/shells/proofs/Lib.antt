@@ -1,4 +1,6 @@
--- Roots and sets; sides that lead.
-pub mod Roots
+-- What a checked mesh has; sides that lead; roots and sets; sets made of triangles.
+pub mod Sound
 pub mod Leading
+pub mod Roots
 pub mod Linked
+pub mod Uniting
