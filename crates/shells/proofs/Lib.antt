@@ -1,6 +1,8 @@
--- What a checked mesh has; sides that lead; roots and sets; sets made of triangles.
+-- What a checked mesh has; sides that lead; roots and sets; sets made of triangles; their ranks are the numbers of the shells, and there are no others.
 pub mod Sound
 pub mod Leading
 pub mod Roots
 pub mod Linked
 pub mod Uniting
+pub mod Numbered
+pub mod OneNumbering
