@@ -6,3 +6,4 @@ pub mod Linked
 pub mod Uniting
 pub mod Numbered
 pub mod OneNumbering
+pub mod Listing
