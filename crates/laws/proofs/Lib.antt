@@ -11,6 +11,7 @@ pub mod Halves
 pub mod Words
 pub mod Scan
 pub mod Nearest
+pub mod Differences
 pub mod Rooms
 pub mod Writes
 pub mod Values
