@@ -7,3 +7,4 @@ pub mod Uniting
 pub mod Numbered
 pub mod OneNumbering
 pub mod Listing
+pub mod Volume

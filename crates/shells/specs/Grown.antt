@@ -1,13 +1,17 @@
 -- Records that grow, point by point and triangle by triangle.
-use mathlib.Core.List.{List, []}
-use mathlib.Core.Bool.{cond, _||_}
-use Prim.Native.Nat.{ℕ, zero, suc, _+_, _<_, _^_, _≤_}
+use mathlib.Core.List.{List}
+use mathlib.Core.Path.{_≡_}
+use mathlib.Core.Bool.{true, cond}
+use Prim.Native.Nat.{ℕ, zero, suc, _+_, _*_, _/_, _<_, _≤_, _^_}
 use lib.Dec.{eqb}
 use lib.IntN.{ℤ, pos, _+ℤ_}
-use lib.ListN.{getD, set}
+use lib.ListN.{length, getD, set}
 use mir.Syntax.{w64}
 use mir.Val.{SFits}
+use Rattle.grid.specs.Limits.{mostCoordinate}
 use Rattle.mesh.specs.Mesh.{triangleAt}
+use Rattle.mesh.specs.Check.{trianglesFit, allWithin}
+use Rattle.shells.specs.declared.Place.{Place}
 use Rattle.shells.specs.declared.Shell.{Shell}
 use Rattle.shells.specs.Numbering.{numberOf}
 use Rattle.shells.specs.Record.{sixfold}
@@ -39,6 +43,21 @@ PointFits s = s .points + 1 < 2 ^ 32
 pub record TriangleFits (d : ℤ) (s : Shell) : Type 0 where
   pub count : s .triangles + 1 < 2 ^ 32
   pub sum : SFits w64 (s .volume +ℤ d)
+
+-- every triangle names points whose places are in the list, and every coordinate is within the limit
+pub record MeshFits (points triangles : List ℕ) : Type 0 where
+  pub corners : trianglesFit triangles (length points / 3) ≡ true
+  pub near : allWithin mostCoordinate points ≡ true
+
+-- a place within the limit
+pub record Near (p : Place) : Type 0 where
+  pub x : p .x ≤ mostCoordinate
+  pub y : p .y ≤ mostCoordinate
+  pub z : p .z ≤ mostCoordinate
+
+-- the greatest product of three coordinates
+abbrev pub mostProduct : ℕ
+mostProduct = mostCoordinate * mostCoordinate * mostCoordinate
 
 -- record n of a list, changed
 abbrev pub changed : (Shell → Shell) → ℕ → List Shell → List Shell

@@ -9,6 +9,7 @@ use Rattle.laws.specs.Range.{keepTo, one-if}
 use Rattle.laws.specs.Signed.{sumOfℤ}
 use Rattle.laws.specs.Mesh.{Triangle}
 use Rattle.mesh.specs.Mesh.{triangleCount, triangleAt}
+use Rattle.shells.specs.declared.Place.{Place}
 use Rattle.shells.specs.declared.Shell.{Shell}
 use Rattle.shells.specs.Numbering.{numberOf}
 
@@ -18,23 +19,16 @@ anyOf p [] = false
 anyOf p (x ∷ xs) = p x || anyOf p xs
 
 -- where a point stands
-pub record Place : Type 0 where
-  pub x : ℕ
-  pub y : ℕ
-  pub z : ℕ
-
 abbrev pub placeOf : List ℕ → ℕ → Place
 placeOf points p = record { x = getD points (3 * p) 0; y = getD points (3 * p + 1) 0; z = getD points (3 * p + 2) 0 }
 
--- with three points as rows, the products of the determinant that count positive and those that count negative
-unfoldable pub gains : Place → Place → Place → ℕ
-gains a b c = a .x * b .y * c .z + a .y * b .z * c .x + a .z * b .x * c .y
+-- three points as rows: the products along the three diagonals that go down to the right
+unfoldable pub diagonals : Place → Place → Place → ℕ
+diagonals a b c = a .x * b .y * c .z + a .y * b .z * c .x + a .z * b .x * c .y
 
-unfoldable pub losses : Place → Place → Place → ℕ
-losses a b c = a .z * b .y * c .x + a .x * b .z * c .y + a .y * b .x * c .z
-
-abbrev pub determinant : Place → Place → Place → ℤ
-determinant a b c = pos (gains a b c) -ℤ pos (losses a b c)
+-- those of the rows in this order count positive, those of the rows in the reverse order negative
+unfoldable pub determinant : Place → Place → Place → ℤ
+determinant a b c = pos (diagonals a b c) -ℤ pos (diagonals c b a)
 
 -- the determinant of a triangle's three points as rows
 unfoldable pub sixfold : List ℕ → Triangle → ℤ

@@ -3,16 +3,16 @@ ghost use mathlib.Core.Path.{_≡_};
 ghost use mathlib.Core.Bool.{true, cond};
 ghost use lib.Dec.{eqb};
 ghost use Prim.Native.Nat.{_+_, _*_, _<_, _≤_};
-ghost use lib.IntN.{_+ℤ_};
 ghost use lib.ListN.{length, getD};
-ghost use Rattle.laws.specs.Mesh.{triangle};
+ghost use mir.Syntax.{w64};
+ghost use mir.Val.{SFits};
 ghost use Rattle.grid.specs.Limits.{mostPoints, mostCoordinate, mostTriangles};
 ghost use Rattle.mesh.specs.Mesh.{triangleCount, triangleAt};
-ghost use Rattle.mesh.specs.Check.{allWithin};
+ghost use Rattle.mesh.specs.Check.{trianglesFit, allWithin};
 ghost use Rattle.shells.specs.Numbering.{numberOf};
-ghost use Rattle.shells.specs.Record.{Place, placeOf, determinant, sixfold};
+ghost use Rattle.shells.specs.Record.{placeOf, diagonals as diagonalsOf, sixfold as sixfoldOf};
 ghost use Rattle.shells.specs.Promise.{left, refusal, Lists, Shells};
-ghost use Rattle.shells.specs.Grown.{none, withPoint, withTriangle, PointFits, TriangleFits, changed, emptied, pointsAdded, trianglesAdded};
+ghost use Rattle.shells.specs.Grown.{none, withPoint, withTriangle, PointFits, TriangleFits, MeshFits, Near, mostProduct, changed, emptied, pointsAdded, trianglesAdded};
 
 mod sets;
 
@@ -23,6 +23,13 @@ pub struct Shell {
     pub triangles: u32,
     pub touches: u32,
     pub volume: i64,
+}
+
+// Where a point stands.
+struct Place {
+    x: u64,
+    y: u64,
+    z: u64,
 }
 
 // Number 0 and the count of shells if granted, else the refusal's number and count 0.
@@ -136,4 +143,83 @@ fn with_point(s: Shell, marks: &[u8], i: usize) -> Shell
         touches: touched(marks[i], s.touches),
         volume: s.volume,
     }
+}
+
+// Where point p stands.
+fn place_of(points: &[u32], p: usize) -> Place
+    requires { ⌜ 3 * p + 2 < length (now points) ⌝ }
+    requires { ⌜ allWithin mostCoordinate (now points) ≡ true ⌝ }
+    ensures { λ r. ⌜ r ≡ placeOf (now (points .entry)) p ⌝ }
+    ensures { λ r. ⌜ Near r ⌝ }
+{
+    let at = 3 * p;
+    Place {
+        x: long(points[at]),
+        y: long(points[at + 1]),
+        z: long(points[at + 2]),
+    }
+}
+
+fn long(x: u32) -> u64
+    ensures { λ r. ⌜ r ≡ x ⌝ }
+{
+    x as u64
+}
+
+// The product of three coordinates.
+fn product(a: u64, b: u64, c: u64) -> u64
+    requires { ⌜ (a ≤ mostCoordinate) × (b ≤ mostCoordinate) × (c ≤ mostCoordinate) ⌝ }
+    ensures { λ r. ⌜ (r ≡ a * b * c) × (r ≤ mostProduct) ⌝ }
+{
+    a * b * c
+}
+
+// Three points as rows: the products along the three diagonals that go down to the right.
+fn diagonals(a: Place, b: Place, c: Place) -> u64
+    requires { ⌜ Near a ⌝ }
+    requires { ⌜ Near b ⌝ }
+    requires { ⌜ Near c ⌝ }
+    ensures { λ r. ⌜ r ≡ diagonalsOf a b c ⌝ }
+{
+    product(a.x, b.y, c.z) + product(a.y, b.z, c.x) + product(a.z, b.x, c.y)
+}
+
+// The determinant of triangle k's three points as rows.
+fn sixfold(points: &[u32], triangles: &[u32], k: usize) -> i64
+    requires { ⌜ MeshFits (now points) (now triangles) ⌝ }
+    requires { ⌜ k < triangleCount (now triangles) ⌝ }
+    ensures { λ r. ⌜ r ≡ sixfoldOf (now (points .entry)) (triangleAt (now (triangles .entry)) k) ⌝ }
+    ensures { λ r. ⌜ SFits w64 r ⌝ }
+{
+    let at = 3 * k;
+    let a = place_of(points, sets::wide(triangles[at]));
+    let b = place_of(points, sets::wide(triangles[at + 1]));
+    let c = place_of(points, sets::wide(triangles[at + 2]));
+    laws::signed::excess(diagonals(a, b, c), diagonals(c, b, a))
+}
+
+// One triangle more, by value.
+fn with_triangle(s: Shell, points: &[u32], triangles: &[u32], k: usize) -> Shell
+    requires { ⌜ TriangleFits (sixfoldOf (now points) (triangleAt (now triangles) k)) s ⌝ }
+    requires { ⌜ MeshFits (now points) (now triangles) ⌝ }
+    requires { ⌜ k < triangleCount (now triangles) ⌝ }
+    ensures { λ r. ⌜ r ≡ withTriangle (sixfoldOf (now (points .entry)) (triangleAt (now (triangles .entry)) k)) s ⌝ }
+{
+    let volume = laws::signed::sum(s.volume, sixfold(points, triangles, k));
+    Shell {
+        low: s.low,
+        points: s.points,
+        triangles: s.triangles + 1,
+        touches: s.touches,
+        volume,
+    }
+}
+
+// The shell number of triangle k: that of its first corner.
+fn number_of(numbers: &[u32], triangles: &[u32], k: usize) -> usize
+    requires { ⌜ trianglesFit (now triangles) (length (now numbers)) ≡ true ⌝ }
+    requires { ⌜ k < triangleCount (now triangles) ⌝ }
+    ensures { λ r. ⌜ r ≡ numberOf (now (numbers .entry)) (triangleAt (now (triangles .entry)) k .one) ⌝ }
+{
+    number_at(numbers, sets::wide(triangles[3 * k]))
 }
