@@ -8,3 +8,6 @@ pub mod Numbered
 pub mod OneNumbering
 pub mod Listing
 pub mod Volume
+pub mod Walk
+pub mod Slices
+pub mod Records
