@@ -8,6 +8,7 @@ pub mod Numbered
 pub mod OneNumbering
 pub mod Listing
 pub mod Volume
+pub mod Growing
 pub mod Walk
 pub mod Slices
 pub mod Records

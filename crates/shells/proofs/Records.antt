@@ -1,5 +1,5 @@
 -- `Slices.antt` at the struct `Shell`: its element, and the names at it that a walk writes often.
---     E, R, ty         the element; its row; the MIR type of a local that holds a record
+--     E, R, ty         the element; its row; the MIR type of a local that holds a record.        EL, RL, tyL     the same of the answer `Listed`
 --     mach, vals       a record's machine value.        typed, makes-it, tells, same, is-of     its laws: the value has the MIR type; what a record owns is had for nothing; a value that the row relates to a record is the record's
 --     Mut, Shr, ref    as `Slices.antt` has them
 -- No line here names a field. Assumes nothing.
@@ -22,11 +22,22 @@ use Rattle.shells.specs.declared.Shell.{Shell}
 use Rattle.shells.specs.Grown.{none}
 use Rattle.shells.proofs.Shell as T
 use Rattle.shells.proofs.Shell.Laws as T′
+use Rattle.shells.proofs.Listed as L
+use Rattle.shells.proofs.Listed.Laws as L′
 use Rattle.shells.proofs.Slices as S
 use Rattle.shells.proofs.Slices.{Elem, struct-elem}
 
 abbrev pub E : Elem
 E = struct-elem T.the-type T′.the-laws T′.the-plain T′.the-copy none
+
+abbrev pub EL : Elem
+EL = struct-elem L.the-type L′.the-laws L′.the-plain L′.the-copy (record { number = 0; shells = 0 })
+
+abbrev pub RL : RattleType
+RL = L.the-row
+
+abbrev pub tyL : Ty
+tyL = L′.mir
 
 abbrev pub R : RattleType
 R = T.the-row

@@ -8,8 +8,8 @@ use lib.IntN.{ℤ, pos, _+ℤ_}
 use lib.ListN.{length, getD, set}
 use mir.Syntax.{w64}
 use mir.Val.{SFits}
-use Rattle.grid.specs.Limits.{mostCoordinate}
-use Rattle.mesh.specs.Mesh.{triangleAt}
+use Rattle.grid.specs.Limits.{mostPoints, mostCoordinate}
+use Rattle.mesh.specs.Mesh.{triangleCount, triangleAt}
 use Rattle.mesh.specs.Check.{trianglesFit, allWithin}
 use Rattle.shells.specs.declared.Place.{Place}
 use Rattle.shells.specs.declared.Shell.{Shell}
@@ -82,3 +82,32 @@ trianglesAdded points triangles numbers (suc k) records =
     (withTriangle (sixfold points (triangleAt triangles k)))
     (numberOf numbers (triangleAt triangles k .one))
     (trianglesAdded points triangles numbers k records)
+
+-- point i can be added: it has a record, and there is room in it
+pub record PointTurn (marks numbers : List ℕ) (records : List Shell) (i : ℕ) : Type 0 where
+  pub small : i < length numbers
+  pub marked : i < length marks
+  pub few : length marks ≤ mostPoints
+  pub numbered : numberOf numbers i < length records
+  pub room : PointFits (getD records (numberOf numbers i) none)
+
+-- triangle k can be added
+pub record TriangleTurn (points triangles numbers : List ℕ) (records : List Shell) (k : ℕ) : Type 0 where
+  pub small : k < triangleCount triangles
+  pub mesh : MeshFits points triangles
+  pub corners : trianglesFit triangles (length numbers) ≡ true
+  pub numbered : numberOf numbers (triangleAt triangles k .one) < length records
+  pub room : TriangleFits (sixfold points (triangleAt triangles k)) (getD records (numberOf numbers (triangleAt triangles k .one)) none)
+
+-- all points can be added, and all triangles, one after the other
+abbrev pub PointsFit : List ℕ → List ℕ → List Shell → Type 0
+PointsFit marks numbers records = (j : ℕ) → j < length numbers → PointTurn marks numbers (pointsAdded marks numbers j records) j
+
+abbrev pub TrianglesFit : List ℕ → List ℕ → List ℕ → List Shell → Type 0
+TrianglesFit points triangles numbers records =
+    (k : ℕ) → k < triangleCount triangles → TriangleTurn points triangles numbers (trianglesAdded points triangles numbers k records) k
+
+-- all records made, from nothing
+abbrev pub filled : List ℕ → List ℕ → List ℕ → List ℕ → ℕ → List Shell → List Shell
+filled points triangles marks numbers shells records =
+    trianglesAdded points triangles numbers (triangleCount triangles) (pointsAdded marks numbers (length numbers) (emptied shells records))

@@ -3,7 +3,7 @@ ghost use mathlib.Core.Path.{_≡_};
 ghost use mathlib.Core.Bool.{true, cond};
 ghost use lib.Dec.{eqb};
 ghost use Prim.Native.Nat.{_+_, _*_, _<_, _≤_};
-ghost use lib.ListN.{length, getD};
+ghost use lib.ListN.{length, getD, set};
 ghost use mir.Syntax.{w64};
 ghost use mir.Val.{SFits};
 ghost use Rattle.grid.specs.Limits.{mostPoints, mostCoordinate, mostTriangles};
@@ -12,7 +12,7 @@ ghost use Rattle.mesh.specs.Check.{trianglesFit, allWithin};
 ghost use Rattle.shells.specs.Numbering.{numberOf};
 ghost use Rattle.shells.specs.Record.{placeOf, diagonals as diagonalsOf, sixfold as sixfoldOf};
 ghost use Rattle.shells.specs.Promise.{left, refusal, Lists, Shells};
-ghost use Rattle.shells.specs.Grown.{none, withPoint, withTriangle, PointFits, TriangleFits, MeshFits, Near, mostProduct, changed, emptied, pointsAdded, trianglesAdded};
+ghost use Rattle.shells.specs.Grown.{none, withPoint, withTriangle, PointFits, TriangleFits, MeshFits, Near, mostProduct, PointTurn, PointsFit, TriangleTurn, TrianglesFit, changed, emptied, pointsAdded, trianglesAdded};
 
 mod sets;
 
@@ -131,9 +131,7 @@ fn touched(mark: u8, touches: u32) -> u32
 
 // One point more, by value.
 fn with_point(s: Shell, marks: &[u8], i: usize) -> Shell
-    requires { ⌜ PointFits s ⌝ }
-    requires { ⌜ i < length (now marks) ⌝ }
-    requires { ⌜ length (now marks) ≤ mostPoints ⌝ }
+    requires { ⌜ PointFits s × (i < length (now marks)) × (length (now marks) ≤ mostPoints) ⌝ }
     ensures { λ r. ⌜ r ≡ withPoint i (getD (now (marks .entry)) i 0) s ⌝ }
 {
     Shell {
@@ -200,9 +198,7 @@ fn sixfold(points: &[u32], triangles: &[u32], k: usize) -> i64
 
 // One triangle more, by value.
 fn with_triangle(s: Shell, points: &[u32], triangles: &[u32], k: usize) -> Shell
-    requires { ⌜ TriangleFits (sixfoldOf (now points) (triangleAt (now triangles) k)) s ⌝ }
-    requires { ⌜ MeshFits (now points) (now triangles) ⌝ }
-    requires { ⌜ k < triangleCount (now triangles) ⌝ }
+    requires { ⌜ TriangleFits (sixfoldOf (now points) (triangleAt (now triangles) k)) s × MeshFits (now points) (now triangles) × (k < triangleCount (now triangles)) ⌝ }
     ensures { λ r. ⌜ r ≡ withTriangle (sixfoldOf (now (points .entry)) (triangleAt (now (triangles .entry)) k)) s ⌝ }
 {
     let volume = laws::signed::sum(s.volume, sixfold(points, triangles, k));
@@ -217,9 +213,85 @@ fn with_triangle(s: Shell, points: &[u32], triangles: &[u32], k: usize) -> Shell
 
 // The shell number of triangle k: that of its first corner.
 fn number_of(numbers: &[u32], triangles: &[u32], k: usize) -> usize
-    requires { ⌜ trianglesFit (now triangles) (length (now numbers)) ≡ true ⌝ }
-    requires { ⌜ k < triangleCount (now triangles) ⌝ }
+    requires { ⌜ (trianglesFit (now triangles) (length (now numbers)) ≡ true) × (k < triangleCount (now triangles)) ⌝ }
     ensures { λ r. ⌜ r ≡ numberOf (now (numbers .entry)) (triangleAt (now (triangles .entry)) k .one) ⌝ }
 {
     number_at(numbers, sets::wide(triangles[3 * k]))
+}
+
+// Makes record n empty.
+fn put_blank(records: &mut [Shell], n: usize)
+    requires { ⌜ n < length (now records) ⌝ }
+    ensures { λ _. ⌜ now (records .exit) ≡ set (now (records .entry)) n none ⌝ }
+{
+    records[n] = blank();
+}
+
+// Makes the first records empty.
+fn empty(records: &mut [Shell], count: usize)
+    requires { ⌜ count ≤ length (now records) ⌝ }
+    ensures { λ _. ⌜ now (records .exit) ≡ emptied count (now (records .entry)) ⌝ }
+{
+    let mut n = 0;
+    while n < count {
+        put_blank(records, n);
+        n += 1;
+    }
+}
+
+// Adds point i to its record.
+fn add_point(records: &mut [Shell], numbers: &[u32], marks: &[u8], i: usize)
+    requires { ⌜ PointTurn (now marks) (now numbers) (now records) i ⌝ }
+    ensures { λ _. ⌜ now (records .exit) ≡ changed (withPoint i (getD (now (marks .entry)) i 0)) (numberOf (now (numbers .entry)) i) (now (records .entry)) ⌝ }
+{
+    let n = number_at(numbers, i);
+    let s = records[n];
+    records[n] = with_point(s, marks, i);
+}
+
+// Adds all points.
+fn add_points(records: &mut [Shell], numbers: &[u32], marks: &[u8])
+    requires { ⌜ PointsFit (now marks) (now numbers) (now records) ⌝ }
+    ensures { λ _. ⌜ now (records .exit) ≡ pointsAdded (now (marks .entry)) (now (numbers .entry)) (length (now (numbers .entry))) (now (records .entry)) ⌝ }
+{
+    let count = numbers.len();
+    let mut i = 0;
+    while i < count {
+        add_point(records, numbers, marks, i);
+        i += 1;
+    }
+}
+
+// Adds triangle k to its record.
+fn add_triangle(
+    records: &mut [Shell],
+    numbers: &[u32],
+    points: &[u32],
+    triangles: &[u32],
+    k: usize,
+)
+    requires { ⌜ TriangleTurn (now points) (now triangles) (now numbers) (now records) k ⌝ }
+    ensures { λ _. ⌜ now (records .exit) ≡ changed (withTriangle (sixfoldOf (now (points .entry)) (triangleAt (now (triangles .entry)) k))) (numberOf (now (numbers .entry)) (triangleAt (now (triangles .entry)) k .one)) (now (records .entry)) ⌝ }
+{
+    let n = number_of(numbers, triangles, k);
+    let s = records[n];
+    records[n] = with_triangle(s, points, triangles, k);
+}
+
+// Adds all triangles.
+fn add_triangles(
+    records: &mut [Shell],
+    numbers: &[u32],
+    points: &[u32],
+    triangles: &[u32],
+    count: usize,
+)
+    requires { ⌜ (count ≡ triangleCount (now triangles)) × TrianglesFit (now points) (now triangles) (now numbers) (now records) ⌝ }
+    ensures { λ _. ⌜ now (records .exit) ≡ trianglesAdded (now (points .entry)) (now (triangles .entry)) (now (numbers .entry)) count (now (records .entry)) ⌝ }
+{
+    let mut k = 0;
+    while k < count {
+        add_triangle(records, numbers, points, triangles, k);
+        k += 1;
+    }
 }
