@@ -111,3 +111,9 @@ TrianglesFit points triangles numbers records =
 abbrev pub filled : List ℕ → List ℕ → List ℕ → List ℕ → ℕ → List Shell → List Shell
 filled points triangles marks numbers shells records =
     trianglesAdded points triangles numbers (triangleCount triangles) (pointsAdded marks numbers (length numbers) (emptied shells records))
+
+-- all records can be made
+pub record FillFits (points triangles marks numbers : List ℕ) (shells : ℕ) (records : List Shell) : Type 0 where
+  pub enough : shells ≤ length records
+  pub points-fit : PointsFit marks numbers (emptied shells records)
+  pub triangles-fit : TrianglesFit points triangles numbers (pointsAdded marks numbers (length numbers) (emptied shells records))

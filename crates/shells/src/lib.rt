@@ -12,7 +12,7 @@ ghost use Rattle.mesh.specs.Check.{trianglesFit, allWithin};
 ghost use Rattle.shells.specs.Numbering.{numberOf};
 ghost use Rattle.shells.specs.Record.{placeOf, diagonals as diagonalsOf, sixfold as sixfoldOf};
 ghost use Rattle.shells.specs.Promise.{left, refusal, Lists, Shells};
-ghost use Rattle.shells.specs.Grown.{none, withPoint, withTriangle, PointFits, TriangleFits, MeshFits, Near, mostProduct, PointTurn, PointsFit, TriangleTurn, TrianglesFit, changed, emptied, pointsAdded, trianglesAdded};
+ghost use Rattle.shells.specs.Grown.{none, withPoint, withTriangle, PointFits, TriangleFits, MeshFits, Near, mostProduct, PointTurn, PointsFit, TriangleTurn, TrianglesFit, changed, emptied, pointsAdded, trianglesAdded, filled, FillFits};
 
 mod sets;
 
@@ -294,4 +294,47 @@ fn add_triangles(
         add_triangle(records, numbers, points, triangles, k);
         k += 1;
     }
+}
+
+fn triangle_count(triangles: &[u32]) -> usize
+    ensures { λ r. ⌜ r ≡ triangleCount (now (triangles .entry)) ⌝ }
+{
+    triangles.len() / 3
+}
+
+// Makes the record of each shell, from the shell numbers of all points.
+fn fill(
+    records: &mut [Shell],
+    shells: usize,
+    numbers: &[u32],
+    points: &[u32],
+    triangles: &[u32],
+    marks: &[u8],
+)
+    requires { ⌜ FillFits (now points) (now triangles) (now marks) (now numbers) shells (now records) ⌝ }
+    ensures { λ _. ⌜ now (records .exit) ≡ filled (now (points .entry)) (now (triangles .entry)) (now (marks .entry)) (now (numbers .entry)) shells (now (records .entry)) ⌝ }
+{
+    empty(records, shells);
+    add_points(records, numbers, marks);
+    let count = triangle_count(triangles);
+    add_triangles(records, numbers, points, triangles, count);
+}
+
+// The shell number of every point and one record a shell, into lent rooms.
+pub fn shells(
+    points: &[u32],
+    triangles: &[u32],
+    marks: &[u8],
+    numbers: &mut [u32],
+    records: &mut [Shell],
+    work: &mut [u32],
+) -> Listed
+    ensures { λ r. ⌜ Shells (now (points .entry)) (now (triangles .entry)) (now (marks .entry)) (now (numbers .entry)) (now (work .entry)) (now (records .entry)) (left (r .number) (r .shells) (now (numbers .exit)) (now (work .exit))) (now (records .exit)) ⌝ }
+{
+    let listed = list_numbers(points, triangles, marks, numbers, work, records.len());
+    if listed.number != 0 {
+        return listed;
+    }
+    fill(records, listed.shells, numbers, points, triangles, marks);
+    listed
 }
