@@ -11,7 +11,7 @@ use lib.ListN.{length}
 use lib.Signed.{mag}
 use mir.Syntax.{w64}
 use mir.Val.{SFits}
-use Rattle.laws.specs.Sum.{sumOf, All}
+use Rattle.laws.specs.Sum.{sumOf}
 use Rattle.laws.specs.Signed.{sumOfℤ}
 
 -- the sum of two differences
@@ -36,10 +36,10 @@ module _ {A : Type 0} where
   sum-differences g l (x ∷ xs) = ap (λ z. (pos (g x) -ℤ pos (l x)) +ℤ z) (sum-differences g l xs) ∙ differences (g x) (l x) (sumOf g xs) (sumOf l xs)
 
   -- a sum of numbers that are at most m each
-  pub sum-most : (m : ℕ) (g : A → ℕ) (xs : List A) → All (λ x. g x ≤ m) xs → sumOf g xs ≤ length xs * m
+  pub sum-most : (m : ℕ) (g : A → ℕ) → ((x : A) → g x ≤ m) → (xs : List A) → sumOf g xs ≤ length xs * m
   unfolding sumOf
-  sum-most m g [] h = omega (arith, zero-mul m)
-  sum-most m g (x ∷ xs) h = omega (arith, h .0, sum-most m g xs (h .1), suc-mul (length xs) m)
+  sum-most m g h [] = omega (arith, zero-mul m)
+  sum-most m g h (x ∷ xs) = omega (arith, h x, sum-most m g h xs, suc-mul (length xs) m)
 
 -- a difference of two numbers is no larger than the larger
 difference-mag : (a b m : ℕ) → a < m → b < m → mag (pos a -ℤ pos b) < m

@@ -2,10 +2,10 @@
 use mathlib.Core.Path.{_≡_, refl, ap, sym, _∙_}
 use mathlib.Core.List.{List, [], _∷_, _++_, append-nil}
 use Prim.Native.Nat.{ℕ, zero, suc, _+_, _<_, _≤_}
-use native.Mathlib.Decide.{decLt}
+use native.Mathlib.Decide.{decLt, ℕ-discrete}
 use native.Mathlib.Omega.{arith}
-use lib.ListN.{length, getD, set, drop, length-append, List·getD-append}
-use lib.Seq.{getD-at, drop-length, ext-getD, getD-append-add}
+use lib.ListN.{length, getD, set, drop, length-append, length-set, List·getD-append}
+use lib.Seq.{getD-at, drop-length, ext-getD, set-append-left, getD-set-same, getD-set-other}
 use Rattle.laws.specs.Range.{joinTo}
 use Rattle.laws.specs.Room.{laid}
 use Rattle.laws.specs.Values.{listTo}
@@ -54,3 +54,28 @@ module _ {A : Type 0} where
 
   pub laid-at : (n i : ℕ) (f : ℕ → A) (room : List A) (d : A) → i < n → getD (laid (listTo n f) room) i d ≡ f i
   laid-at n i f room d l = laid-front (listTo n f) room i d (omega (arith, length-list n f)) ∙ list-at n i f d l
+
+  -- one value changed, there and nowhere else
+  list-change : (n i : ℕ) (f g : ℕ → A) → i < n → ((k : ℕ) → (k ≡ i → ⊥) → g k ≡ f k) → set (listTo n f) i (g i) ≡ listTo n g
+  list-change n i f g l h =
+      ext-getD (g i) (set (listTo n f) i (g i)) (listTo n g) (length-set (listTo n f) i (g i) ∙ length-list n f ∙ sym (length-list n g)) same
+    where
+      long : length (set (listTo n f) i (g i)) ≡ n
+      long = length-set (listTo n f) i (g i) ∙ length-list n f
+      same : (k : ℕ) → k < length (set (listTo n f) i (g i)) → getD (set (listTo n f) i (g i)) k (g i) ≡ getD (listTo n g) k (g i)
+      same k lk = go (ℕ-discrete k i)
+        where
+          go : Dec (k ≡ i) → getD (set (listTo n f) i (g i)) k (g i) ≡ getD (listTo n g) k (g i)
+          go (yes e) = rw e (getD-set-same (listTo n f) i (g i) (g i) (omega (arith, length-list n f)) ∙ sym (list-at n i g (g i) l))
+          go (no ne) =
+              getD-set-other (listTo n f) i k (g i) (g i) ne
+              ∙ list-at n k f (g i) (omega (arith, long))
+              ∙ sym (h k ne)
+              ∙ sym (list-at n k g (g i) (omega (arith, long)))
+
+  pub laid-change : (n i : ℕ) (f g : ℕ → A) (room : List A) → i < n → ((k : ℕ) → (k ≡ i → ⊥) → g k ≡ f k) → set (laid (listTo n f) room) i (g i) ≡ laid (listTo n g) room
+  unfolding laid
+  laid-change n i f g room l h =
+      set-append-left (listTo n f) (drop (length (listTo n f)) room) i (g i) (omega (arith, length-list n f))
+      ∙ ap (λ xs. xs ++ drop (length (listTo n f)) room) (list-change n i f g l h)
+      ∙ ap (λ k. listTo n g ++ drop k room) (length-list n f ∙ sym (length-list n g))

@@ -8,6 +8,8 @@ pub mod Numbered
 pub mod OneNumbering
 pub mod Listing
 pub mod Volume
+pub mod Making
+pub mod Made
 pub mod Growing
 pub mod Walk
 pub mod Slices

@@ -3,9 +3,10 @@ use mathlib.Core.Path.{_≡_, refl, sym, _∙_}
 use mathlib.Core.List.{List}
 use mathlib.Core.Bool.{Bool, true, false, cond, not, _&&_}
 use Prim.Native.Nat.{ℕ, suc, _*_, _/_, _%_, _<_, _≤_}
+use native.Mathlib.Decide.{decLt}
 use native.Mathlib.Omega.{arith}
 use lib.Dec.{eqb, ltb, leb}
-use lib.ListN.{length, getD}
+use lib.ListN.{length, getD, List·getD-eq-default}
 use borrow.Author.Tests.{ltb-true, leb-true, eqb-true}
 use Rattle.laws.specs.Mesh.{Triangle}
 use Rattle.laws.proofs.Tests.{both, all-at}
@@ -71,6 +72,14 @@ passed points triangles marks numbers work h =
 pub within : (most : ℕ) (xs : List ℕ) (i : ℕ) → allWithin most xs ≡ true → i < length xs → getD xs i 0 ≤ most
 unfolding allWithin
 within most xs i h l = leb-true _ _ (all-at (length xs) (λ k. leb (getD xs k 0) most) h i l)
+
+-- a place beyond its end reads as 0
+pub within-any : (most : ℕ) (xs : List ℕ) (i : ℕ) → allWithin most xs ≡ true → getD xs i 0 ≤ most
+within-any most xs i h = go (decLt i (length xs))
+  where
+    go : Dec (i < length xs) → getD xs i 0 ≤ most
+    go (yes l) = within most xs i h l
+    go (no ge) = omega (arith, List·getD-eq-default xs 0 {n = i} (omega arith))
 
 pub record Corners (v : ℕ) (t : Triangle) : Type 0 where
   pub first : t .one < v
