@@ -62,6 +62,7 @@ module _ {A : Type 0} where
     where
       long : length (set (listTo n f) i (g i)) ≡ n
       long = length-set (listTo n f) i (g i) ∙ length-list n f
+
       same : (k : ℕ) → k < length (set (listTo n f) i (g i)) → getD (set (listTo n f) i (g i)) k (g i) ≡ getD (listTo n g) k (g i)
       same k lk = go (ℕ-discrete k i)
         where

@@ -10,6 +10,7 @@ pub mod Listing
 pub mod Volume
 pub mod Making
 pub mod Made
+pub mod Ending
 pub mod Growing
 pub mod Walk
 pub mod Slices

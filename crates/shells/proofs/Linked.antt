@@ -69,6 +69,7 @@ module _ (room : List ℕ) (falls : Falling room) (lo hi : ℕ) (small : hi < le
               ∙ under-low lo hi
               ∙ sym (under-there lo hi (root room hi) (root-fixed room falls hi hi-top)))
           go (no n) = ap (λ q. under lo hi (root room q)) (parent-else room falls hi lo small low p n) ∙ ap (under lo hi) (root-parent room falls p)
+
       tops : (p : ℕ) → parent after p ≡ p → under lo hi (root room p) ≡ p
       tops p h = go (ℕ-discrete p hi)
         where
@@ -110,6 +111,7 @@ module _ (old room : List ℕ) (s : SameSets old room) (a b : ℕ) (a-small : a 
           where
             fit : length (set room hi lo) ≡ length old
             fit = length-set room hi lo ∙ s .long
+
             go : Became lo hi (root old p) (root old q) → Led ts p q
             go (same h) = old-sound p q (omega (arith, fit)) (omega (arith, fit)) h
             go (there x y) =

@@ -107,10 +107,12 @@ module _ (points triangles marks numbers : List ℕ) (shells : ℕ) (room : List
       where
         n : ℕ
         n = numberOf numbers j
+
         here : withPoint j (getD marks j 0) (partly j 0 n) ≡ partly (suc j) 0 n
         here =
             with-point points triangles marks (keepTo j (hasPoint n)) (keepTo 0 (hasTriangle n)) j
             ∙ ap (λ ps. recordFrom points triangles marks ps (keepTo 0 (hasTriangle n))) (sym (keep-yes j (hasPoint n) (eq-eqb n n refl)))
+
         others : (m : ℕ) → (m ≡ n → ⊥) → partly (suc j) 0 m ≡ partly j 0 m
         others m ne =
             ap (λ ps. recordFrom points triangles marks ps (keepTo 0 (hasTriangle m))) (keep-no j (hasPoint m) (ne-eqb n m (λ e. ne (sym e))))
@@ -124,12 +126,15 @@ module _ (points triangles marks numbers : List ℕ) (shells : ℕ) (room : List
         where
           n : ℕ
           n = numberOf numbers (triangleAt triangles k .one)
+
           d : ℤ
           d = sixfold points (triangleAt triangles k)
+
           here : withTriangle (sixfold points (triangleAt triangles k)) (partly j k n) ≡ partly j (suc k) n
           here =
               with-triangle points triangles marks (keepTo j (hasPoint n)) (keepTo k (hasTriangle n)) k
               ∙ ap (recordFrom points triangles marks (keepTo j (hasPoint n))) (sym (keep-yes k (hasTriangle n) (eq-eqb n n refl)))
+
           others : (m : ℕ) → (m ≡ n → ⊥) → partly j (suc k) m ≡ partly j k m
           others m ne = ap (recordFrom points triangles marks (keepTo j (hasPoint m))) (keep-no k (hasTriangle m) (ne-eqb n m (λ e. ne (sym e))))
 

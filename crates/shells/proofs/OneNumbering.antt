@@ -47,6 +47,7 @@ module _ (ts : List Triangle) (v : ℕ) where
       where
         used : Used v b (numberOf a p)
         used = B .used (numberOf a p) (omega (arith, less, B .small p small))
+
         go : First (numberOf b) (numberOf a p) v → ⊥
         go (nowhere none) = none (used .point) (used .small) (used .number)
         go (at r l e none) = compare (decLt r p) (decLt p r)
@@ -57,6 +58,7 @@ module _ (ts : List Triangle) (v : ℕ) where
                 order : Dec (q < r) → r ≤ q
                 order (yes l′) = absurd (none q l′ (eq ∙ e))
                 order (no ge) = omega arith
+
             compare : Dec (r < p) → Dec (p < r) → ⊥
             compare (yes l′) d = new r l′ (below r l′ ∙ e)
             compare (no ge) (yes k) = omega (arith, B .rising p r small l lowest low k, e, less)
@@ -76,6 +78,7 @@ module _ (ts : List Triangle) (v : ℕ) where
           where
             none′ : (q : ℕ) → q < p → numberOf b q ≡ numberOf b p → ⊥
             none′ q lq e = none q lq (A .same q p (omega arith) small (B .led q p (omega arith) small e))
+
             order : Dec (numberOf a p < numberOf b p) → Dec (numberOf b p < numberOf a p) → numberOf a p ≡ numberOf b p
             order (yes less) d = absurd (no-more a b m n A B p small below none less)
             order (no x) (yes more) = absurd (no-more b a n m B A p small (λ q lq. sym (below q lq)) none′ more)

@@ -104,6 +104,7 @@ module _ (room : List ℕ) (falls : Falling room) (i x : ℕ) (small : i < lengt
           go : Dec (p ≡ i) → root room (parent after p) ≡ root room p
           go (yes e) = rw e (ap (root room) parent-there ∙ one)
           go (no n) = ap (root room) (parent-else p n) ∙ root-parent room falls p
+
       tops : (p : ℕ) → parent after p ≡ p → root room p ≡ p
       tops p h = go (ℕ-discrete p i)
         where

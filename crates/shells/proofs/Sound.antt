@@ -30,6 +30,7 @@ no-number n k h = go (eqb n 0) refl h
       where
         refl-of : n ≡ 0 → eqb n 0 ≡ true
         refl-of q = rw q
+
         false≢ : false ≡ true → ⊥
         false≢ q = let z : _≡_ {A = ℕ} 0 1 = cc in omega arith
 

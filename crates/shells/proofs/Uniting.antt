@@ -62,6 +62,7 @@ uniting-more triangles old room mid after k l u a b =
   where
     keeps : (p q : ℕ) → root room p ≡ root room q → root after p ≡ root after q
     keeps p q e = b .keeps p q (a .keeps p q e)
+
     together : (i : ℕ) → i < k + 1 → Together triangles after i
     together i li = go (decLt i k)
       where

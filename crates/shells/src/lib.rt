@@ -40,13 +40,7 @@ pub struct Listed {
 }
 
 // The first of 6, 7, 8, 9 and 3 that holds, or 0.
-fn refused(
-    points: &[u32],
-    triangles: &[u32],
-    marks: &[u8],
-    numbers: usize,
-    work: usize,
-) -> u32
+fn refused(points: &[u32], triangles: &[u32], marks: &[u8], numbers: usize, work: usize) -> u32
     ensures { λ r. ⌜ r ≡ refusal (now (points .entry)) (now (triangles .entry)) (now (marks .entry)) numbers work ⌝ }
 {
     let number = mesh::check(points, triangles, marks);
@@ -263,13 +257,7 @@ fn add_points(records: &mut [Shell], numbers: &[u32], marks: &[u8])
 }
 
 // Adds triangle k to its record.
-fn add_triangle(
-    records: &mut [Shell],
-    numbers: &[u32],
-    points: &[u32],
-    triangles: &[u32],
-    k: usize,
-)
+fn add_triangle(records: &mut [Shell], numbers: &[u32], points: &[u32], triangles: &[u32], k: usize)
     requires { ⌜ TriangleTurn (now points) (now triangles) (now numbers) (now records) k ⌝ }
     ensures { λ _. ⌜ now (records .exit) ≡ changed (withTriangle (sixfoldOf (now (points .entry)) (triangleAt (now (triangles .entry)) k))) (numberOf (now (numbers .entry)) (triangleAt (now (triangles .entry)) k .one)) (now (records .entry)) ⌝ }
 {

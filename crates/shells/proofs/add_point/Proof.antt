@@ -132,7 +132,7 @@ module _ {M : Type 1} (𝓤 : URA M) (H : Heap 𝓤) (A : Atoms 𝓤) (W : Given
         use2 W (raw (NumberAt 𝓤 H A mem run .pre to)) (asked) $
         calls-at ! fm (NumberAt 𝓤 H A mem run) known-number-at to (and-then ! (load ! (from ! (stop !)) (look ! 22 refl)) (and-then ! (load ! (from ! (stop !)) (look ! 18 refl)) (no-more !))) (λ w.
         use1 W (later (some (λ (h : ℕ). ((‵ (flft κ1 q1) ⊛ ‵ ftrue) ⊛ ‵ (usize .own h (w ∷ []))) ⊛ raw (ensured 𝓤 H A number-at.ended (number-at.clauses 𝓤 H A mem run) lfts args tt h)))) (id⊢ 𝓤 _) $ await ! tt $ pick ! (λ r.
-        split ! $ move ! (1 ∷ []) $  use1 W (raw (fact 𝓤 (r ≡ n))) (said r) $ heard ! (r ≡ n) (λ e.  split ! $ move ! (1 ∷ []) $ rewrite ! 0 (λ (h : ℕ). ‵ (usize .own h (w ∷ []))) e refl $ peeks ! usize (Is usize) (shows 𝓤 H A usize) n (w ∷ []) (λ is-r.
+        split ! $ move ! (1 ∷ []) $ use1 W (raw (fact 𝓤 (r ≡ n))) (said r) $ heard ! (r ≡ n) (λ e. split ! $ move ! (1 ∷ []) $ rewrite ! 0 (λ (h : ℕ). ‵ (usize .own h (w ∷ []))) e refl $ peeks ! usize (Is usize) (shows 𝓤 H A usize) n (w ∷ []) (λ is-r.
         land ! (from ! (stop !)) (init ! 17 refl (uint-lawful 𝓤 H A W w64 .typed n _ is-r .0)) $ rewrite ! 17 (λ (u : Val). ‵ (fat fullShare (tyInt w64) l₅ 0 u)) (ap only (is-r .0)) refl $ drop ! $ split ! $ move ! (1 ∷ []) $ drop ! $ move ! (2 ∷ 1 ∷ 3 ∷ 4 ∷ 0 ∷ 5 ∷ []) $
         -- [ys; numbers; marks; tok0; tok1; tok2; _10; _9; _8; _7; _6; _5; _4; _3; _2; _1; _0]
         assigns ! (bin ! (load ! (from ! (stop !)) (look ! 16 refl)) (lit ! tt) (record { fits = fits-at E n (length ys) (pre .numbered) room-ys })) (from ! (stop !)) (init ! 12 refl (tt, record { fits = fits-at E n (length ys) (pre .numbered) room-ys })) $
@@ -146,7 +146,7 @@ module _ {M : Type 1} (𝓤 : URA M) (H : Heap 𝓤) (A : Atoms 𝓤) (W : Given
         use2 W (raw (WithPoint 𝓤 H A mem run .pre to1)) (asked1) $
         calls-at ! fm (WithPoint 𝓤 H A mem run) known-with-point to1 (and-then ! (load ! (from ! (stop !)) (look ! 14 refl)) (and-then ! (load ! (from ! (stop !)) (look ! 20 refl)) (and-then ! (load ! (from ! (stop !)) (look ! 18 refl)) (no-more !)))) (λ w1.
         use1 W (later (some (λ (h : Shell). ((‵ (flft κ2 q2) ⊛ ‵ ftrue) ⊛ ‵ (R .own h (w1 ∷ []))) ⊛ raw (ensured 𝓤 H A with-point.ended (with-point.clauses 𝓤 H A mem run) lfts1 args1 tt h)))) (id⊢ 𝓤 _) $ await ! tt $ pick ! (λ r1.
-        split ! $ move ! (1 ∷ []) $  use1 W (raw (fact 𝓤 (r1 ≡ new))) (said1 r1) $ heard ! (r1 ≡ new) (λ e1.  split ! $ move ! (1 ∷ []) $ rewrite ! 0 (λ (h : Shell). ‵ (R .own h (w1 ∷ []))) e1 refl $ peeks ! R (Is R) (shows 𝓤 H A R) new (w1 ∷ []) (λ is-r1.
+        split ! $ move ! (1 ∷ []) $ use1 W (raw (fact 𝓤 (r1 ≡ new))) (said1 r1) $ heard ! (r1 ≡ new) (λ e1. split ! $ move ! (1 ∷ []) $ rewrite ! 0 (λ (h : Shell). ‵ (R .own h (w1 ∷ []))) e1 refl $ peeks ! R (Is R) (shows 𝓤 H A R) new (w1 ∷ []) (λ is-r1.
         land ! (from ! (stop !)) (store ! 9 refl (typed 𝓤 H A W new _ is-r1)) $ rewrite ! 9 (λ (u : Val). ‵ (fat fullShare ty l₉ 0 u)) (same new w1 is-r1) refl $ drop ! $ split ! $ move ! (1 ∷ []) $ drop ! $ move ! (2 ∷ 4 ∷ 1 ∷ 3 ∷ 5 ∷ 0 ∷ []) $
         -- [ys; numbers; marks; tok0; tok1; tok2; _10; _9; _8; _7; _6; _5; _4; _3; _2; _1; _0]
         assigns ! (bin ! (load ! (from ! (stop !)) (look ! 16 refl)) (lit ! tt) (record { fits = fits-at E n (length ys) (pre .numbered) room-ys })) (from ! (stop !)) (store ! 12 refl (tt, record { fits = fits-at E n (length ys) (pre .numbered) room-ys })) $

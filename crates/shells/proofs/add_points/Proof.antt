@@ -135,8 +135,8 @@ module _ {M : Type 1} (𝓤 : URA M) (H : Heap 𝓤) (A : Atoms 𝓤) (W : Given
         use2 W (raw (AddPoint 𝓤 H A mem run .pre (to (j .0) ν δ))) (asked (j .0) ν δ (ltb→lt (j .0) count less)) $
         calls-at ! fm (AddPoint 𝓤 H A mem run) known-add-point (to (j .0) ν δ) (and-then ! (load ! (from ! (stop !)) (look ! 7 refl)) (and-then ! (load ! (from ! (stop !)) (look ! 21 refl)) (and-then ! (load ! (from ! (stop !)) (look ! 19 refl)) (and-then ! (load ! (from ! (stop !)) (look ! 15 refl)) (no-more !))))) (λ w.
         use1 W (later (some (λ (h : Unit {0}). ((‵ (flft (ν ∷ []) fullShare) ⊛ ‵ (flft κ1 q1) ⊛ ‵ (flft κ2 q2) ⊛ ‵ ftrue) ⊛ ‵ (unit .own h (w ∷ []))) ⊛ raw (ensured 𝓤 H A add-point.ended (add-point.clauses 𝓤 H A mem run) (lfts (j .0) ν δ) (args (j .0) ν δ) tt h)))) (id⊢ 𝓤 _) $ await ! tt $ pick ! (λ r.
-        split ! $ move ! (1 ∷ []) $  use1 W (some (λ (zs : List Shell × (Unit {0} × (Unit {0} × (Unit {0} × Unit {0})))). ‵ (lasts add-point.ended (lfts (j .0) ν δ) (args (j .0) ν δ) zs) ⊛ raw (fact 𝓤 (zs .0 ≡ changed (withPoint (j .0) (getD marks (j .0) 0)) (numberOf numbers (j .0)) (at (j .0)))))) (id⊢ 𝓤 _) $ pick ! (λ zs.
-        split ! $ move ! (1 ∷ []) $ heard ! (zs .0 ≡ changed (withPoint (j .0) (getD marks (j .0) 0)) (numberOf numbers (j .0)) (at (j .0))) (λ e.  fsplit ! $ fsplit ! $ move ! (1 ∷ []) $  feqL ! (λ l-ys.  move ! (1 ∷ []) $ drop ! $ move ! (1 ∷ []) $ split ! $ move ! (1 ∷ []) $ peeks ! unit (Is unit) (shows 𝓤 H A unit) r (w ∷ []) (λ is-r.
+        split ! $ move ! (1 ∷ []) $ use1 W (some (λ (us : List Shell × (Unit {0} × (Unit {0} × (Unit {0} × Unit {0})))). ‵ (lasts add-point.ended (lfts (j .0) ν δ) (args (j .0) ν δ) us) ⊛ raw (fact 𝓤 ((us .0) ≡ changed (withPoint (j .0) (getD marks (j .0) 0)) (numberOf numbers (j .0)) (at (j .0)))))) (id⊢ 𝓤 _) $ pick ! (λ zs.
+        split ! $ move ! (1 ∷ []) $ heard ! ((zs .0) ≡ changed (withPoint (j .0) (getD marks (j .0) 0)) (numberOf numbers (j .0)) (at (j .0))) (λ e. fsplit ! $ fsplit ! $ move ! (1 ∷ []) $ feqL ! (λ l-ys. move ! (1 ∷ []) $ drop ! $ move ! (1 ∷ []) $ split ! $ move ! (1 ∷ []) $ peeks ! unit (Is unit) (shows 𝓤 H A unit) r (w ∷ []) (λ is-r.
         land ! (from ! (stop !)) (init ! 13 refl (nothing-lawful 𝓤 H A W .typed r _ is-r .0)) $ drop ! $ split ! $ move ! (1 ∷ []) $ split ! $ move ! (1 ∷ []) $ split ! $ move ! (1 ∷ []) $ drop ! $ move ! (2 ∷ 6 ∷ 7 ∷ 8 ∷ 9 ∷ 3 ∷ []) $ comes ! E tt (length ys) (at (j .0)) (zs .0) b-ys o-ys (long (j .0)) room-ys l-ys $ move ! (0 ∷ 5 ∷ 4 ∷ 1 ∷ 3 ∷ 2 ∷ []) $
         -- [ys; numbers; marks; tok0; tok1; tok2; _9; _8; _7; _6; _5; _4; _3; _2; _1; _0]
         rewrite ! 0 (λ (us : List Shell). ‵ (Mut κ0 γ-ys b-ys o-ys (length ys) us)) (e ∙ points-next marks numbers ys (j .0)) refl $ assigns-last ! (bin ! (load ! (from ! (stop !)) (look ! 14 refl)) (lit ! tt) (record { fits = fits (j .0 + 1) (next less .1) })) (from ! (stop !)) (store ! 14 refl (tt, record { fits = fits (j .0 + 1) (next less .1) })) $
@@ -155,14 +155,14 @@ module _ {M : Type 1} (𝓤 : URA M) (H : Heap 𝓤) (A : Atoms 𝓤) (W : Given
   walk : (𝓣 : Tables 𝓤 H) → Triple 𝓤 (𝓣 .C #add-point) (AddPoint 𝓤 H A mem run) → ent 𝓤 (onEntry 𝓤 H A f.signature (κ0, (κ1, (κ2, tt))) (q0, (q1, (q2, tt))) a vals) (WpFn 𝓤 H (𝓣 .C) (𝓣 .Λ) code.function (sliceVal (b-ys, o-ys) (length ys) ∷ sliceVal (b-numbers, o-numbers) (length numbers) ∷ sliceVal (b-marks, o-marks) (length marks) ∷ []) Post)
   walk 𝓣 known-add-point =
       qed W ((‵ (flft κ0 q0) ⊛ ‵ (flft κ1 q1) ⊛ ‵ (flft κ2 q2) ⊛ ‵ ftrue) ∷ ‵ (owns (MutSlice (named 0) κ0 R ∷ ShrSlice (named 1) κ1 u32 ∷ ShrSlice (named 2) κ2 u8 ∷ []) a vals) ∷ []) ∵ enter ! (𝓣 .C) (𝓣 .Λ) code.function (sliceVal (b-ys, o-ys) (length ys) ∷ sliceVal (b-numbers, o-numbers) (length numbers) ∷ sliceVal (b-marks, o-marks) (length marks) ∷ []) _ $
-        alloc1 ! (λ l₀. alloc1 ! (λ l₁. alloc1 ! (λ l₂. alloc1 ! (λ l₃. alloc1 ! (λ l₄. alloc1 ! (λ l₅. alloc1 ! (λ l₆. alloc1 ! (λ l₇. alloc1 ! (λ l₈. alloc1 ! (λ l₉. alloc0 ! $ params1 ! $
-        pass1 ! (init ! 16 refl (tt, (tt, (record { fits = room-ys .0 }, tt)))) $ pass1 ! (init ! 14 refl (tt, (tt, (record { fits = room-numbers .0 }, tt)))) $ pass1 ! (init ! 12 refl (tt, (tt, (record { fits = room-marks .0 }, tt)))) $ pass0 ! $
-        move ! (21 ∷ []) $ fsplit ! $ move ! (1 ∷ []) $ fsplit ! $ move ! (1 ∷ []) $ fsplit ! $ move ! (1 ∷ []) $ drop ! $ move ! (23 ∷ []) $ split ! $ move ! (1 ∷ []) $ split ! $ move ! (1 ∷ []) $ split ! $ move ! (1 ∷ []) $ drop ! $ move ! (5 ∷ 4 ∷ 3 ∷ 2 ∷ 1 ∷ 0 ∷ []) $
-        -- [ys; numbers; marks; tok0; tok1; tok2; _9; _8; _7; _6; _5; _4; _3; _2; _1; _0]
-        assigns ! (of-opd ! (load ! (from ! (fld ! refl (stop !))) (look-in ! 20 (sub ! 1 refl (whole !))))) (from ! (stop !)) (init ! 16 refl (tt, record { fits = room-numbers .0 })) $
-        assigns ! (of-opd ! (lit ! tt)) (from ! (stop !)) (init ! 14 refl (tt, record { fits = lit< tt })) $
-        keep ! (0 ∷ 1 ∷ 2 ∷ 3 ∷ 4 ∷ 5 ∷ 6 ∷ 7 ∷ 8 ∷ 9 ∷ 10 ∷ 11 ∷ 12 ∷ 13 ∷ 14 ∷ 15 ∷ 16 ∷ 17 ∷ 18 ∷ 19 ∷ 20 ∷ 21 ∷ 22 ∷ 23 ∷ 24 ∷ 25 ∷ []) $
-        first ! $ blocks ! $ loops ! 𝓣 Nearer Nearer-wf (At 𝓣 known-add-point l₀ l₁ l₂ l₃ l₄ l₅ l₆ l₇ l₈ l₉) (turns 𝓣 known-add-point l₀ l₁ l₂ l₃ l₄ l₅ l₆ l₇ l₈ l₉) (0, zero-le)))))))))))
+      alloc1 ! (λ l₀. alloc1 ! (λ l₁. alloc1 ! (λ l₂. alloc1 ! (λ l₃. alloc1 ! (λ l₄. alloc1 ! (λ l₅. alloc1 ! (λ l₆. alloc1 ! (λ l₇. alloc1 ! (λ l₈. alloc1 ! (λ l₉. alloc0 ! $ params1 ! $
+      pass1 ! (init ! 16 refl (tt, (tt, (record { fits = room-ys .0 }, tt)))) $ pass1 ! (init ! 14 refl (tt, (tt, (record { fits = room-numbers .0 }, tt)))) $ pass1 ! (init ! 12 refl (tt, (tt, (record { fits = room-marks .0 }, tt)))) $ pass0 ! $
+      move ! (21 ∷ []) $ fsplit ! $ move ! (1 ∷ []) $ fsplit ! $ move ! (1 ∷ []) $ fsplit ! $ move ! (1 ∷ []) $ drop ! $ move ! (23 ∷ []) $ split ! $ move ! (1 ∷ []) $ split ! $ move ! (1 ∷ []) $ split ! $ move ! (1 ∷ []) $ drop ! $ move ! (5 ∷ 4 ∷ 3 ∷ 2 ∷ 1 ∷ 0 ∷ []) $
+      -- [ys; numbers; marks; tok0; tok1; tok2; _9; _8; _7; _6; _5; _4; _3; _2; _1; _0]
+      assigns ! (of-opd ! (load ! (from ! (fld ! refl (stop !))) (look-in ! 20 (sub ! 1 refl (whole !))))) (from ! (stop !)) (init ! 16 refl (tt, record { fits = room-numbers .0 })) $
+      assigns ! (of-opd ! (lit ! tt)) (from ! (stop !)) (init ! 14 refl (tt, record { fits = lit< tt })) $
+      keep ! (0 ∷ 1 ∷ 2 ∷ 3 ∷ 4 ∷ 5 ∷ 6 ∷ 7 ∷ 8 ∷ 9 ∷ 10 ∷ 11 ∷ 12 ∷ 13 ∷ 14 ∷ 15 ∷ 16 ∷ 17 ∷ 18 ∷ 19 ∷ 20 ∷ 21 ∷ 22 ∷ 23 ∷ 24 ∷ 25 ∷ []) $
+      first ! $ blocks ! $ loops ! 𝓣 Nearer Nearer-wf (At 𝓣 known-add-point l₀ l₁ l₂ l₃ l₄ l₅ l₆ l₇ l₈ l₉) (turns 𝓣 known-add-point l₀ l₁ l₂ l₃ l₄ l₅ l₆ l₇ l₈ l₉) (0, zero-le)))))))))))
 
 module _ {M : Type 1} (𝓤 : URA M) (H : Heap 𝓤) (A : Atoms 𝓤) (W : Given 𝓤 H A) (mem : Memory → SProp 𝓤) (run : Routine → Fun 𝓤) where
   walks : (𝓣 : Tables 𝓤 H) → Triple 𝓤 (𝓣 .C #add-point) (AddPoint 𝓤 H A mem run) → Walks 𝓤 H A f.ended stayed (WpFn 𝓤 H (𝓣 .C) (𝓣 .Λ) code.function) (f.clauses 𝓤 H A mem run)

@@ -143,7 +143,7 @@ module _ {M : Type 1} (𝓤 : URA M) (H : Heap 𝓤) (A : Atoms 𝓤) (W : Given
         use2 W (raw (NumberOf 𝓤 H A mem run .pre to)) (asked) $
         calls-at ! fm (NumberOf 𝓤 H A mem run) known-number-of to (and-then ! (load ! (from ! (stop !)) (look ! 25 refl)) (and-then ! (load ! (from ! (stop !)) (look ! 21 refl)) (and-then ! (load ! (from ! (stop !)) (look ! 19 refl)) (no-more !)))) (λ w.
         use1 W (later (some (λ (h : ℕ). ((‵ (flft κ1 q1) ⊛ ‵ (flft κ3 q3) ⊛ ‵ ftrue) ⊛ ‵ (usize .own h (w ∷ []))) ⊛ raw (ensured 𝓤 H A number-of.ended (number-of.clauses 𝓤 H A mem run) lfts args tt h)))) (id⊢ 𝓤 _) $ await ! tt $ pick ! (λ r.
-        split ! $ move ! (1 ∷ []) $  use1 W (raw (fact 𝓤 (r ≡ n))) (said r) $ heard ! (r ≡ n) (λ e.  split ! $ move ! (1 ∷ []) $ rewrite ! 0 (λ (h : ℕ). ‵ (usize .own h (w ∷ []))) e refl $ peeks ! usize (Is usize) (shows 𝓤 H A usize) n (w ∷ []) (λ is-r.
+        split ! $ move ! (1 ∷ []) $ use1 W (raw (fact 𝓤 (r ≡ n))) (said r) $ heard ! (r ≡ n) (λ e. split ! $ move ! (1 ∷ []) $ rewrite ! 0 (λ (h : ℕ). ‵ (usize .own h (w ∷ []))) e refl $ peeks ! usize (Is usize) (shows 𝓤 H A usize) n (w ∷ []) (λ is-r.
         land ! (from ! (stop !)) (init ! 18 refl (uint-lawful 𝓤 H A W w64 .typed n _ is-r .0)) $ rewrite ! 18 (λ (u : Val). ‵ (fat fullShare (tyInt w64) l₆ 0 u)) (ap only (is-r .0)) refl $ drop ! $ split ! $ move ! (1 ∷ []) $ split ! $ move ! (1 ∷ []) $ drop ! $ move ! (4 ∷ 3 ∷ 5 ∷ 2 ∷ 6 ∷ 1 ∷ 7 ∷ 0 ∷ []) $
         -- [ys; numbers; points; triangles; tok0; tok1; tok2; tok3; _11; _10; _9; _8; _7; _6; _5; _4; _3; _2; _1; _0]
         assigns ! (bin ! (load ! (from ! (stop !)) (look ! 18 refl)) (lit ! tt) (record { fits = fits-at E n (length ys) (pre .numbered) room-ys })) (from ! (stop !)) (init ! 14 refl (tt, record { fits = fits-at E n (length ys) (pre .numbered) room-ys })) $
@@ -157,7 +157,7 @@ module _ {M : Type 1} (𝓤 : URA M) (H : Heap 𝓤) (A : Atoms 𝓤) (W : Given
         use2 W (raw (WithTriangle 𝓤 H A mem run .pre to1)) (asked1) $
         calls-at ! fm (WithTriangle 𝓤 H A mem run) known-with-triangle to1 (and-then ! (load ! (from ! (stop !)) (look ! 15 refl)) (and-then ! (load ! (from ! (stop !)) (look ! 23 refl)) (and-then ! (load ! (from ! (stop !)) (look ! 21 refl)) (and-then ! (load ! (from ! (stop !)) (look ! 19 refl)) (no-more !))))) (λ w1.
         use1 W (later (some (λ (h : Shell). ((‵ (flft κ2 q2) ⊛ ‵ (flft κ3 q3) ⊛ ‵ ftrue) ⊛ ‵ (R .own h (w1 ∷ []))) ⊛ raw (ensured 𝓤 H A with-triangle.ended (with-triangle.clauses 𝓤 H A mem run) lfts1 args1 tt h)))) (id⊢ 𝓤 _) $ await ! tt $ pick ! (λ r1.
-        split ! $ move ! (1 ∷ []) $  use1 W (raw (fact 𝓤 (r1 ≡ new))) (said1 r1) $ heard ! (r1 ≡ new) (λ e1.  split ! $ move ! (1 ∷ []) $ rewrite ! 0 (λ (h : Shell). ‵ (R .own h (w1 ∷ []))) e1 refl $ peeks ! R (Is R) (shows 𝓤 H A R) new (w1 ∷ []) (λ is-r1.
+        split ! $ move ! (1 ∷ []) $ use1 W (raw (fact 𝓤 (r1 ≡ new))) (said1 r1) $ heard ! (r1 ≡ new) (λ e1. split ! $ move ! (1 ∷ []) $ rewrite ! 0 (λ (h : Shell). ‵ (R .own h (w1 ∷ []))) e1 refl $ peeks ! R (Is R) (shows 𝓤 H A R) new (w1 ∷ []) (λ is-r1.
         land ! (from ! (stop !)) (store ! 10 refl (typed 𝓤 H A W new _ is-r1)) $ rewrite ! 10 (λ (u : Val). ‵ (fat fullShare ty l₁₀ 0 u)) (same new w1 is-r1) refl $ drop ! $ split ! $ move ! (1 ∷ []) $ split ! $ move ! (1 ∷ []) $ drop ! $ move ! (4 ∷ 6 ∷ 3 ∷ 2 ∷ 5 ∷ 7 ∷ 1 ∷ 0 ∷ []) $
         -- [ys; numbers; points; triangles; tok0; tok1; tok2; tok3; _11; _10; _9; _8; _7; _6; _5; _4; _3; _2; _1; _0]
         assigns ! (bin ! (load ! (from ! (stop !)) (look ! 18 refl)) (lit ! tt) (record { fits = fits-at E n (length ys) (pre .numbered) room-ys })) (from ! (stop !)) (store ! 14 refl (tt, record { fits = fits-at E n (length ys) (pre .numbered) room-ys })) $

@@ -143,8 +143,8 @@ module _ {M : Type 1} (𝓤 : URA M) (H : Heap 𝓤) (A : Atoms 𝓤) (W : Given
         use2 W (raw (AddTriangle 𝓤 H A mem run .pre (to (j .0) ν δ))) (asked (j .0) ν δ (ltb→lt (j .0) count less)) $
         calls-at ! fm (AddTriangle 𝓤 H A mem run) known-add-triangle (to (j .0) ν δ) (and-then ! (load ! (from ! (stop !)) (look ! 8 refl)) (and-then ! (load ! (from ! (stop !)) (look ! 24 refl)) (and-then ! (load ! (from ! (stop !)) (look ! 22 refl)) (and-then ! (load ! (from ! (stop !)) (look ! 20 refl)) (and-then ! (load ! (from ! (stop !)) (look ! 16 refl)) (no-more !)))))) (λ w.
         use1 W (later (some (λ (h : Unit {0}). ((‵ (flft (ν ∷ []) fullShare) ⊛ ‵ (flft κ1 q1) ⊛ ‵ (flft κ2 q2) ⊛ ‵ (flft κ3 q3) ⊛ ‵ ftrue) ⊛ ‵ (unit .own h (w ∷ []))) ⊛ raw (ensured 𝓤 H A add-triangle.ended (add-triangle.clauses 𝓤 H A mem run) (lfts (j .0) ν δ) (args (j .0) ν δ) tt h)))) (id⊢ 𝓤 _) $ await ! tt $ pick ! (λ r.
-        split ! $ move ! (1 ∷ []) $  use1 W (some (λ (zs : List Shell × (Unit {0} × (Unit {0} × (Unit {0} × (Unit {0} × Unit {0}))))). ‵ (lasts add-triangle.ended (lfts (j .0) ν δ) (args (j .0) ν δ) zs) ⊛ raw (fact 𝓤 (zs .0 ≡ changed (withTriangle (sixfold points (triangleAt triangles (j .0)))) (numberOf numbers (triangleAt triangles (j .0) .one)) (at (j .0)))))) (id⊢ 𝓤 _) $ pick ! (λ zs.
-        split ! $ move ! (1 ∷ []) $ heard ! (zs .0 ≡ changed (withTriangle (sixfold points (triangleAt triangles (j .0)))) (numberOf numbers (triangleAt triangles (j .0) .one)) (at (j .0))) (λ e.  fsplit ! $ fsplit ! $ move ! (1 ∷ []) $  feqL ! (λ l-ys.  move ! (1 ∷ []) $ drop ! $ move ! (1 ∷ []) $ split ! $ move ! (1 ∷ []) $ peeks ! unit (Is unit) (shows 𝓤 H A unit) r (w ∷ []) (λ is-r.
+        split ! $ move ! (1 ∷ []) $ use1 W (some (λ (us : List Shell × (Unit {0} × (Unit {0} × (Unit {0} × (Unit {0} × Unit {0}))))). ‵ (lasts add-triangle.ended (lfts (j .0) ν δ) (args (j .0) ν δ) us) ⊛ raw (fact 𝓤 ((us .0) ≡ changed (withTriangle (sixfold points (triangleAt triangles (j .0)))) (numberOf numbers (triangleAt triangles (j .0) .one)) (at (j .0)))))) (id⊢ 𝓤 _) $ pick ! (λ zs.
+        split ! $ move ! (1 ∷ []) $ heard ! ((zs .0) ≡ changed (withTriangle (sixfold points (triangleAt triangles (j .0)))) (numberOf numbers (triangleAt triangles (j .0) .one)) (at (j .0))) (λ e. fsplit ! $ fsplit ! $ move ! (1 ∷ []) $ feqL ! (λ l-ys. move ! (1 ∷ []) $ drop ! $ move ! (1 ∷ []) $ split ! $ move ! (1 ∷ []) $ peeks ! unit (Is unit) (shows 𝓤 H A unit) r (w ∷ []) (λ is-r.
         land ! (from ! (stop !)) (init ! 14 refl (nothing-lawful 𝓤 H A W .typed r _ is-r .0)) $ drop ! $ split ! $ move ! (1 ∷ []) $ split ! $ move ! (1 ∷ []) $ split ! $ move ! (1 ∷ []) $ split ! $ move ! (1 ∷ []) $ drop ! $ move ! (3 ∷ 8 ∷ 9 ∷ 10 ∷ 11 ∷ 4 ∷ []) $ comes ! E tt (length ys) (at (j .0)) (zs .0) b-ys o-ys (long (j .0)) room-ys l-ys $ move ! (0 ∷ 7 ∷ 6 ∷ 5 ∷ 1 ∷ 4 ∷ 3 ∷ 2 ∷ []) $
         -- [ys; numbers; points; triangles; tok0; tok1; tok2; tok3; _10; _9; _8; _7; _6; _5; _4; _3; _2; _1; _0]
         rewrite ! 0 (λ (us : List Shell). ‵ (Mut κ0 γ-ys b-ys o-ys (length ys) us)) (e ∙ triangles-next points triangles numbers ys (j .0)) refl $ assigns-last ! (bin ! (load ! (from ! (stop !)) (look ! 16 refl)) (lit ! tt) (record { fits = fits (j .0 + 1) (next less .1) })) (from ! (stop !)) (store ! 16 refl (tt, record { fits = fits (j .0 + 1) (next less .1) })) $
@@ -163,13 +163,13 @@ module _ {M : Type 1} (𝓤 : URA M) (H : Heap 𝓤) (A : Atoms 𝓤) (W : Given
   walk : (𝓣 : Tables 𝓤 H) → Triple 𝓤 (𝓣 .C #add-triangle) (AddTriangle 𝓤 H A mem run) → ent 𝓤 (onEntry 𝓤 H A f.signature (κ0, (κ1, (κ2, (κ3, tt)))) (q0, (q1, (q2, (q3, tt)))) a vals) (WpFn 𝓤 H (𝓣 .C) (𝓣 .Λ) code.function (sliceVal (b-ys, o-ys) (length ys) ∷ sliceVal (b-numbers, o-numbers) (length numbers) ∷ sliceVal (b-points, o-points) (length points) ∷ sliceVal (b-triangles, o-triangles) (length triangles) ∷ vint w64 count ∷ []) Post)
   walk 𝓣 known-add-triangle =
       qed W ((‵ (flft κ0 q0) ⊛ ‵ (flft κ1 q1) ⊛ ‵ (flft κ2 q2) ⊛ ‵ (flft κ3 q3) ⊛ ‵ ftrue) ∷ ‵ (owns (MutSlice (named 0) κ0 R ∷ ShrSlice (named 1) κ1 u32 ∷ ShrSlice (named 2) κ2 u32 ∷ ShrSlice (named 3) κ3 u32 ∷ usize ∷ []) a vals) ∷ []) ∵ enter ! (𝓣 .C) (𝓣 .Λ) code.function (sliceVal (b-ys, o-ys) (length ys) ∷ sliceVal (b-numbers, o-numbers) (length numbers) ∷ sliceVal (b-points, o-points) (length points) ∷ sliceVal (b-triangles, o-triangles) (length triangles) ∷ vint w64 count ∷ []) _ $
-        alloc1 ! (λ l₀. alloc1 ! (λ l₁. alloc1 ! (λ l₂. alloc1 ! (λ l₃. alloc1 ! (λ l₄. alloc1 ! (λ l₅. alloc1 ! (λ l₆. alloc1 ! (λ l₇. alloc1 ! (λ l₈. alloc1 ! (λ l₉. alloc1 ! (λ l₁₀. alloc0 ! $ params1 ! $
-        pass1 ! (init ! 18 refl (tt, (tt, (record { fits = room-ys .0 }, tt)))) $ pass1 ! (init ! 16 refl (tt, (tt, (record { fits = room-numbers .0 }, tt)))) $ pass1 ! (init ! 14 refl (tt, (tt, (record { fits = room-points .0 }, tt)))) $ pass1 ! (init ! 12 refl (tt, (tt, (record { fits = room-triangles .0 }, tt)))) $ pass1 ! (init ! 10 refl (tt, record { fits = count-fits })) $ pass0 ! $
-        move ! (23 ∷ []) $ fsplit ! $ move ! (1 ∷ []) $ fsplit ! $ move ! (1 ∷ []) $ fsplit ! $ move ! (1 ∷ []) $ fsplit ! $ move ! (1 ∷ []) $ fsplit ! $ drop ! $ drop ! $ move ! (26 ∷ []) $ split ! $ move ! (1 ∷ []) $ split ! $ move ! (1 ∷ []) $ split ! $ move ! (1 ∷ []) $ split ! $ move ! (1 ∷ []) $ drop ! $ move ! (7 ∷ 6 ∷ 5 ∷ 4 ∷ 3 ∷ 2 ∷ 1 ∷ 0 ∷ []) $
-        -- [ys; numbers; points; triangles; tok0; tok1; tok2; tok3; _10; _9; _8; _7; _6; _5; _4; _3; _2; _1; _0]
-        assigns ! (of-opd ! (lit ! tt)) (from ! (stop !)) (init ! 16 refl (tt, record { fits = lit< tt })) $
-        keep ! (0 ∷ 1 ∷ 2 ∷ 3 ∷ 4 ∷ 5 ∷ 6 ∷ 7 ∷ 8 ∷ 9 ∷ 10 ∷ 11 ∷ 12 ∷ 13 ∷ 14 ∷ 15 ∷ 16 ∷ 17 ∷ 18 ∷ 19 ∷ 20 ∷ 21 ∷ 22 ∷ 23 ∷ 24 ∷ 25 ∷ 26 ∷ 27 ∷ 28 ∷ 29 ∷ []) $
-        first ! $ blocks ! $ loops ! 𝓣 Nearer Nearer-wf (At 𝓣 known-add-triangle l₀ l₁ l₂ l₃ l₄ l₅ l₆ l₇ l₈ l₉ l₁₀) (turns 𝓣 known-add-triangle l₀ l₁ l₂ l₃ l₄ l₅ l₆ l₇ l₈ l₉ l₁₀) (0, zero-le))))))))))))
+      alloc1 ! (λ l₀. alloc1 ! (λ l₁. alloc1 ! (λ l₂. alloc1 ! (λ l₃. alloc1 ! (λ l₄. alloc1 ! (λ l₅. alloc1 ! (λ l₆. alloc1 ! (λ l₇. alloc1 ! (λ l₈. alloc1 ! (λ l₉. alloc1 ! (λ l₁₀. alloc0 ! $ params1 ! $
+      pass1 ! (init ! 18 refl (tt, (tt, (record { fits = room-ys .0 }, tt)))) $ pass1 ! (init ! 16 refl (tt, (tt, (record { fits = room-numbers .0 }, tt)))) $ pass1 ! (init ! 14 refl (tt, (tt, (record { fits = room-points .0 }, tt)))) $ pass1 ! (init ! 12 refl (tt, (tt, (record { fits = room-triangles .0 }, tt)))) $ pass1 ! (init ! 10 refl (tt, record { fits = count-fits })) $ pass0 ! $
+      move ! (23 ∷ []) $ fsplit ! $ move ! (1 ∷ []) $ fsplit ! $ move ! (1 ∷ []) $ fsplit ! $ move ! (1 ∷ []) $ fsplit ! $ move ! (1 ∷ []) $ fsplit ! $ drop ! $ drop ! $ move ! (26 ∷ []) $ split ! $ move ! (1 ∷ []) $ split ! $ move ! (1 ∷ []) $ split ! $ move ! (1 ∷ []) $ split ! $ move ! (1 ∷ []) $ drop ! $ move ! (7 ∷ 6 ∷ 5 ∷ 4 ∷ 3 ∷ 2 ∷ 1 ∷ 0 ∷ []) $
+      -- [ys; numbers; points; triangles; tok0; tok1; tok2; tok3; _10; _9; _8; _7; _6; _5; _4; _3; _2; _1; _0]
+      assigns ! (of-opd ! (lit ! tt)) (from ! (stop !)) (init ! 16 refl (tt, record { fits = lit< tt })) $
+      keep ! (0 ∷ 1 ∷ 2 ∷ 3 ∷ 4 ∷ 5 ∷ 6 ∷ 7 ∷ 8 ∷ 9 ∷ 10 ∷ 11 ∷ 12 ∷ 13 ∷ 14 ∷ 15 ∷ 16 ∷ 17 ∷ 18 ∷ 19 ∷ 20 ∷ 21 ∷ 22 ∷ 23 ∷ 24 ∷ 25 ∷ 26 ∷ 27 ∷ 28 ∷ 29 ∷ []) $
+      first ! $ blocks ! $ loops ! 𝓣 Nearer Nearer-wf (At 𝓣 known-add-triangle l₀ l₁ l₂ l₃ l₄ l₅ l₆ l₇ l₈ l₉ l₁₀) (turns 𝓣 known-add-triangle l₀ l₁ l₂ l₃ l₄ l₅ l₆ l₇ l₈ l₉ l₁₀) (0, zero-le))))))))))))
 
 module _ {M : Type 1} (𝓤 : URA M) (H : Heap 𝓤) (A : Atoms 𝓤) (W : Given 𝓤 H A) (mem : Memory → SProp 𝓤) (run : Routine → Fun 𝓤) where
   walks : (𝓣 : Tables 𝓤 H) → Triple 𝓤 (𝓣 .C #add-triangle) (AddTriangle 𝓤 H A mem run) → Walks 𝓤 H A f.ended stayed (WpFn 𝓤 H (𝓣 .C) (𝓣 .Λ) code.function) (f.clauses 𝓤 H A mem run)

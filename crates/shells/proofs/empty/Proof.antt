@@ -113,8 +113,8 @@ module _ {M : Type 1} (𝓤 : URA M) (H : Heap 𝓤) (A : Atoms 𝓤) (W : Given
         use2 W (raw (PutBlank 𝓤 H A mem run .pre (to (j .0) ν δ))) (asked (j .0) ν δ (ltb→lt (j .0) count less)) $
         calls-at ! fm (PutBlank 𝓤 H A mem run) known-put-blank (to (j .0) ν δ) (and-then ! (load ! (from ! (stop !)) (look ! 5 refl)) (and-then ! (load ! (from ! (stop !)) (look ! 13 refl)) (no-more !))) (λ w.
         use1 W (later (some (λ (h : Unit {0}). ((‵ (flft (ν ∷ []) fullShare) ⊛ ‵ ftrue) ⊛ ‵ (unit .own h (w ∷ []))) ⊛ raw (ensured 𝓤 H A put-blank.ended (put-blank.clauses 𝓤 H A mem run) (lfts (j .0) ν δ) (args (j .0) ν δ) tt h)))) (id⊢ 𝓤 _) $ await ! tt $ pick ! (λ r.
-        split ! $ move ! (1 ∷ []) $  use1 W (some (λ (zs : List Shell × (Unit {0} × Unit {0})). ‵ (lasts put-blank.ended (lfts (j .0) ν δ) (args (j .0) ν δ) zs) ⊛ raw (fact 𝓤 (zs .0 ≡ set (at (j .0)) (j .0) none)))) (id⊢ 𝓤 _) $ pick ! (λ zs.
-        split ! $ move ! (1 ∷ []) $ heard ! (zs .0 ≡ set (at (j .0)) (j .0) none) (λ e.  fsplit ! $ fsplit ! $ move ! (1 ∷ []) $  feqL ! (λ l-ys.  move ! (1 ∷ []) $ drop ! $ move ! (1 ∷ []) $ split ! $ move ! (1 ∷ []) $ peeks ! unit (Is unit) (shows 𝓤 H A unit) r (w ∷ []) (λ is-r.
+        split ! $ move ! (1 ∷ []) $ use1 W (some (λ (us : List Shell × (Unit {0} × Unit {0})). ‵ (lasts put-blank.ended (lfts (j .0) ν δ) (args (j .0) ν δ) us) ⊛ raw (fact 𝓤 ((us .0) ≡ set (at (j .0)) (j .0) none)))) (id⊢ 𝓤 _) $ pick ! (λ zs.
+        split ! $ move ! (1 ∷ []) $ heard ! ((zs .0) ≡ set (at (j .0)) (j .0) none) (λ e. fsplit ! $ fsplit ! $ move ! (1 ∷ []) $ feqL ! (λ l-ys. move ! (1 ∷ []) $ drop ! $ move ! (1 ∷ []) $ split ! $ move ! (1 ∷ []) $ peeks ! unit (Is unit) (shows 𝓤 H A unit) r (w ∷ []) (λ is-r.
         land ! (from ! (stop !)) (init ! 11 refl (nothing-lawful 𝓤 H A W .typed r _ is-r .0)) $ drop ! $ split ! $ move ! (1 ∷ []) $ drop ! $ move ! (0 ∷ 2 ∷ 3 ∷ 4 ∷ 5 ∷ 1 ∷ []) $ comes ! E tt (length ys) (at (j .0)) (zs .0) b-ys o-ys (long (j .0)) room-ys l-ys $
         -- [ys; tok0; _7; _6; _5; _4; _3; _2; _1; _0]
         rewrite ! 0 (λ (us : List Shell). ‵ (Mut κ0 γ-ys b-ys o-ys (length ys) us)) (e ∙ emptied-next (j .0) ys) refl $ assigns-last ! (bin ! (load ! (from ! (stop !)) (look ! 10 refl)) (lit ! tt) (record { fits = fits (j .0 + 1) (next less .1) })) (from ! (stop !)) (store ! 10 refl (tt, record { fits = fits (j .0 + 1) (next less .1) })) $
@@ -133,13 +133,13 @@ module _ {M : Type 1} (𝓤 : URA M) (H : Heap 𝓤) (A : Atoms 𝓤) (W : Given
   walk : (𝓣 : Tables 𝓤 H) → Triple 𝓤 (𝓣 .C #put-blank) (PutBlank 𝓤 H A mem run) → ent 𝓤 (onEntry 𝓤 H A f.signature (κ0, tt) (q0, tt) a vals) (WpFn 𝓤 H (𝓣 .C) (𝓣 .Λ) code.function (sliceVal (b-ys, o-ys) (length ys) ∷ vint w64 count ∷ []) Post)
   walk 𝓣 known-put-blank =
       qed W ((‵ (flft κ0 q0) ⊛ ‵ ftrue) ∷ ‵ (owns (MutSlice (named 0) κ0 R ∷ usize ∷ []) a vals) ∷ []) ∵ enter ! (𝓣 .C) (𝓣 .Λ) code.function (sliceVal (b-ys, o-ys) (length ys) ∷ vint w64 count ∷ []) _ $
-        alloc1 ! (λ l₀. alloc1 ! (λ l₁. alloc1 ! (λ l₂. alloc1 ! (λ l₃. alloc1 ! (λ l₄. alloc1 ! (λ l₅. alloc1 ! (λ l₆. alloc1 ! (λ l₇. alloc0 ! $ params1 ! $
-        pass1 ! (init ! 12 refl (tt, (tt, (record { fits = room-ys .0 }, tt)))) $ pass1 ! (init ! 10 refl (tt, record { fits = count-fits })) $ pass0 ! $
-        move ! (17 ∷ []) $ fsplit ! $ move ! (1 ∷ []) $ fsplit ! $ drop ! $ drop ! $ move ! (17 ∷ []) $ split ! $ move ! (1 ∷ []) $ drop ! $ move ! (1 ∷ 0 ∷ []) $
-        -- [ys; tok0; _7; _6; _5; _4; _3; _2; _1; _0]
-        assigns ! (of-opd ! (lit ! tt)) (from ! (stop !)) (init ! 10 refl (tt, record { fits = lit< tt })) $
-        keep ! (0 ∷ 1 ∷ 2 ∷ 3 ∷ 4 ∷ 5 ∷ 6 ∷ 7 ∷ 8 ∷ 9 ∷ 10 ∷ 11 ∷ 12 ∷ 13 ∷ 14 ∷ 15 ∷ 16 ∷ 17 ∷ []) $
-        first ! $ blocks ! $ loops ! 𝓣 Nearer Nearer-wf (At 𝓣 known-put-blank l₀ l₁ l₂ l₃ l₄ l₅ l₆ l₇) (turns 𝓣 known-put-blank l₀ l₁ l₂ l₃ l₄ l₅ l₆ l₇) (0, zero-le)))))))))
+      alloc1 ! (λ l₀. alloc1 ! (λ l₁. alloc1 ! (λ l₂. alloc1 ! (λ l₃. alloc1 ! (λ l₄. alloc1 ! (λ l₅. alloc1 ! (λ l₆. alloc1 ! (λ l₇. alloc0 ! $ params1 ! $
+      pass1 ! (init ! 12 refl (tt, (tt, (record { fits = room-ys .0 }, tt)))) $ pass1 ! (init ! 10 refl (tt, record { fits = count-fits })) $ pass0 ! $
+      move ! (17 ∷ []) $ fsplit ! $ move ! (1 ∷ []) $ fsplit ! $ drop ! $ drop ! $ move ! (17 ∷ []) $ split ! $ move ! (1 ∷ []) $ drop ! $ move ! (1 ∷ 0 ∷ []) $
+      -- [ys; tok0; _7; _6; _5; _4; _3; _2; _1; _0]
+      assigns ! (of-opd ! (lit ! tt)) (from ! (stop !)) (init ! 10 refl (tt, record { fits = lit< tt })) $
+      keep ! (0 ∷ 1 ∷ 2 ∷ 3 ∷ 4 ∷ 5 ∷ 6 ∷ 7 ∷ 8 ∷ 9 ∷ 10 ∷ 11 ∷ 12 ∷ 13 ∷ 14 ∷ 15 ∷ 16 ∷ 17 ∷ []) $
+      first ! $ blocks ! $ loops ! 𝓣 Nearer Nearer-wf (At 𝓣 known-put-blank l₀ l₁ l₂ l₃ l₄ l₅ l₆ l₇) (turns 𝓣 known-put-blank l₀ l₁ l₂ l₃ l₄ l₅ l₆ l₇) (0, zero-le)))))))))
 
 module _ {M : Type 1} (𝓤 : URA M) (H : Heap 𝓤) (A : Atoms 𝓤) (W : Given 𝓤 H A) (mem : Memory → SProp 𝓤) (run : Routine → Fun 𝓤) where
   walks : (𝓣 : Tables 𝓤 H) → Triple 𝓤 (𝓣 .C #put-blank) (PutBlank 𝓤 H A mem run) → Walks 𝓤 H A f.ended stayed (WpFn 𝓤 H (𝓣 .C) (𝓣 .Λ) code.function) (f.clauses 𝓤 H A mem run)

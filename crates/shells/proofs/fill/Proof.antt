@@ -218,8 +218,8 @@ module _ {M : Type 1} (𝓤 : URA M) (H : Heap 𝓤) (A : Atoms 𝓤) (W : Given
         use2 W (raw (Empty 𝓤 H A mem run .pre (to ν δ))) (asked ν δ) $
         calls-at ! fm (Empty 𝓤 H A mem run) known-empty (to ν δ) (and-then ! (load ! (from ! (stop !)) (look ! 21 refl)) (and-then ! (load ! (from ! (stop !)) (look ! 37 refl)) (no-more !))) (λ w.
         use1 W (later (some (λ (h : Unit {0}). ((‵ (flft (ν ∷ []) fullShare) ⊛ ‵ ftrue) ⊛ ‵ (unit .own h (w ∷ []))) ⊛ raw (ensured 𝓤 H A empty.ended (empty.clauses 𝓤 H A mem run) (lfts ν δ) (args ν δ) tt h)))) (id⊢ 𝓤 _) $ await ! tt $ pick ! (λ r.
-        split ! $ move ! (1 ∷ []) $  use1 W (some (λ (zs : List Shell × (Unit {0} × Unit {0})). ‵ (lasts empty.ended (lfts ν δ) (args ν δ) zs) ⊛ raw (fact 𝓤 (zs .0 ≡ one)))) (id⊢ 𝓤 _) $ pick ! (λ zs.
-        split ! $ move ! (1 ∷ []) $ heard ! (zs .0 ≡ one) (λ e.  fsplit ! $ fsplit ! $ move ! (1 ∷ []) $  feqL ! (λ l-ys.  move ! (1 ∷ []) $ drop ! $ move ! (1 ∷ []) $ split ! $ move ! (1 ∷ []) $ peeks ! unit (Is unit) (shows 𝓤 H A unit) r (w ∷ []) (λ is-r.
+        split ! $ move ! (1 ∷ []) $ use1 W (some (λ (us : List Shell × (Unit {0} × Unit {0})). ‵ (lasts empty.ended (lfts ν δ) (args ν δ) us) ⊛ raw (fact 𝓤 ((us .0) ≡ one)))) (id⊢ 𝓤 _) $ pick ! (λ zs.
+        split ! $ move ! (1 ∷ []) $ heard ! ((zs .0) ≡ one) (λ e. fsplit ! $ fsplit ! $ move ! (1 ∷ []) $ feqL ! (λ l-ys. move ! (1 ∷ []) $ drop ! $ move ! (1 ∷ []) $ split ! $ move ! (1 ∷ []) $ peeks ! unit (Is unit) (shows 𝓤 H A unit) r (w ∷ []) (λ is-r.
         land ! (from ! (stop !)) (init ! 27 refl (nothing-lawful 𝓤 H A W .typed r _ is-r .0)) $ drop ! $ split ! $ move ! (1 ∷ []) $ drop ! $ move ! (0 ∷ 2 ∷ 3 ∷ 4 ∷ 5 ∷ 1 ∷ []) $ comes ! E tt (length ys) ys (zs .0) b-ys o-ys refl room-ys l-ys $ move ! (0 ∷ 2 ∷ 3 ∷ 4 ∷ 5 ∷ 1 ∷ 6 ∷ 7 ∷ 8 ∷ 9 ∷ []) $
         -- [ys; numbers; points; triangles; marks; tok0; tok1; tok2; tok3; tok4; _14; _13; _12; _11; _10; _9; _8; _7; _6; _5; _4; _3; _2; _1; _0]
         rewrite ! 0 (λ (us : List Shell). ‵ (Mut κ0 γ-ys b-ys o-ys (length ys) us)) e refl $
@@ -230,8 +230,8 @@ module _ {M : Type 1} (𝓤 : URA M) (H : Heap 𝓤) (A : Atoms 𝓤) (W : Given
         use2 W (raw (AddPoints 𝓤 H A mem run .pre (to1 ν δ))) (asked1 ν δ) $
         calls-at ! fm (AddPoints 𝓤 H A mem run) known-add-points (to1 ν δ) (and-then ! (load ! (from ! (stop !)) (look ! 15 refl)) (and-then ! (load ! (from ! (stop !)) (look ! 33 refl)) (and-then ! (load ! (from ! (stop !)) (look ! 27 refl)) (no-more !)))) (λ w1.
         use1 W (later (some (λ (h : Unit {0}). ((‵ (flft (ν ∷ []) fullShare) ⊛ ‵ (flft κ1 q1) ⊛ ‵ (flft κ4 q4) ⊛ ‵ ftrue) ⊛ ‵ (unit .own h (w1 ∷ []))) ⊛ raw (ensured 𝓤 H A add-points.ended (add-points.clauses 𝓤 H A mem run) (lfts1 ν δ) (args1 ν δ) tt h)))) (id⊢ 𝓤 _) $ await ! tt $ pick ! (λ r1.
-        split ! $ move ! (1 ∷ []) $  use1 W (some (λ (zs : List Shell × (Unit {0} × (Unit {0} × Unit {0}))). ‵ (lasts add-points.ended (lfts1 ν δ) (args1 ν δ) zs) ⊛ raw (fact 𝓤 (zs .0 ≡ two)))) (id⊢ 𝓤 _) $ pick ! (λ zs1.
-        split ! $ move ! (1 ∷ []) $ heard ! (zs1 .0 ≡ two) (λ e1.  fsplit ! $ fsplit ! $ move ! (1 ∷ []) $  feqL ! (λ l-ys1.  move ! (1 ∷ []) $ drop ! $ move ! (1 ∷ []) $ split ! $ move ! (1 ∷ []) $ peeks ! unit (Is unit) (shows 𝓤 H A unit) r1 (w1 ∷ []) (λ is-r1.
+        split ! $ move ! (1 ∷ []) $ use1 W (some (λ (us : List Shell × (Unit {0} × (Unit {0} × Unit {0}))). ‵ (lasts add-points.ended (lfts1 ν δ) (args1 ν δ) us) ⊛ raw (fact 𝓤 ((us .0) ≡ two)))) (id⊢ 𝓤 _) $ pick ! (λ zs1.
+        split ! $ move ! (1 ∷ []) $ heard ! ((zs1 .0) ≡ two) (λ e1. fsplit ! $ fsplit ! $ move ! (1 ∷ []) $ feqL ! (λ l-ys1. move ! (1 ∷ []) $ drop ! $ move ! (1 ∷ []) $ split ! $ move ! (1 ∷ []) $ peeks ! unit (Is unit) (shows 𝓤 H A unit) r1 (w1 ∷ []) (λ is-r1.
         land ! (from ! (stop !)) (store ! 25 refl (nothing-lawful 𝓤 H A W .typed r1 _ is-r1 .0)) $ drop ! $ split ! $ move ! (1 ∷ []) $ split ! $ move ! (1 ∷ []) $ split ! $ move ! (1 ∷ []) $ drop ! $ move ! (2 ∷ 6 ∷ 7 ∷ 8 ∷ 9 ∷ 3 ∷ []) $ comes ! E tt (length ys) one (zs1 .0) b-ys o-ys long-one room-ys l-ys1 $ move ! (0 ∷ 5 ∷ 6 ∷ 7 ∷ 4 ∷ 1 ∷ 3 ∷ 8 ∷ 9 ∷ 2 ∷ []) $
         -- [ys; numbers; points; triangles; marks; tok0; tok1; tok2; tok3; tok4; _14; _13; _12; _11; _10; _9; _8; _7; _6; _5; _4; _3; _2; _1; _0]
         rewrite ! 0 (λ (us : List Shell). ‵ (Mut κ0 γ-ys b-ys o-ys (length ys) us)) e1 refl $
@@ -239,7 +239,7 @@ module _ {M : Type 1} (𝓤 : URA M) (H : Heap 𝓤) (A : Atoms 𝓤) (W : Given
         use2 W (raw (TriangleCount 𝓤 H A mem run .pre to2)) (asked2) $
         calls-at ! fm (TriangleCount 𝓤 H A mem run) known-triangle-count to2 (and-then ! (load ! (from ! (stop !)) (look ! 28 refl)) (no-more !)) (λ w2.
         use1 W (later (some (λ (h : ℕ). ((‵ (flft κ3 q3) ⊛ ‵ ftrue) ⊛ ‵ (usize .own h (w2 ∷ []))) ⊛ raw (ensured 𝓤 H A triangle-count.ended (triangle-count.clauses 𝓤 H A mem run) lfts2 args2 tt h)))) (id⊢ 𝓤 _) $ await ! tt $ pick ! (λ r2.
-        split ! $ move ! (1 ∷ []) $  use1 W (raw (fact 𝓤 (r2 ≡ triangleCount triangles))) (said2 r2) $ heard ! (r2 ≡ triangleCount triangles) (λ e2.  split ! $ move ! (1 ∷ []) $ rewrite ! 0 (λ (h : ℕ). ‵ (usize .own h (w2 ∷ []))) e2 refl $ peeks ! usize (Is usize) (shows 𝓤 H A usize) (triangleCount triangles) (w2 ∷ []) (λ is-r2.
+        split ! $ move ! (1 ∷ []) $ use1 W (raw (fact 𝓤 (r2 ≡ triangleCount triangles))) (said2 r2) $ heard ! (r2 ≡ triangleCount triangles) (λ e2. split ! $ move ! (1 ∷ []) $ rewrite ! 0 (λ (h : ℕ). ‵ (usize .own h (w2 ∷ []))) e2 refl $ peeks ! usize (Is usize) (shows 𝓤 H A usize) (triangleCount triangles) (w2 ∷ []) (λ is-r2.
         land ! (from ! (stop !)) (init ! 25 refl (uint-lawful 𝓤 H A W w64 .typed (triangleCount triangles) _ is-r2 .0)) $ rewrite ! 25 (λ (u : Val). ‵ (fat fullShare (tyInt w64) l₇ 0 u)) (ap only (is-r2 .0)) refl $ drop ! $ split ! $ move ! (1 ∷ []) $ drop ! $ move ! (2 ∷ 3 ∷ 4 ∷ 1 ∷ 5 ∷ 6 ∷ 7 ∷ 8 ∷ 0 ∷ 9 ∷ []) $
         -- [ys; numbers; points; triangles; marks; tok0; tok1; tok2; tok3; tok4; _14; _13; _12; _11; _10; _9; _8; _7; _6; _5; _4; _3; _2; _1; _0]
         assigns ! (addr ! (from ! (fld ! refl (hop ! (look-in ! 36 (sub ! 0 refl (whole !))) (stop !))))) (from ! (stop !)) (init ! 12 refl (tt, tt)) $
@@ -249,8 +249,8 @@ module _ {M : Type 1} (𝓤 : URA M) (H : Heap 𝓤) (A : Atoms 𝓤) (W : Given
         use2 W (raw (AddTriangles 𝓤 H A mem run .pre (to3 ν δ))) (asked3 ν δ) $
         calls-at ! fm (AddTriangles 𝓤 H A mem run) known-add-triangles (to3 ν δ) (and-then ! (load ! (from ! (stop !)) (look ! 10 refl)) (and-then ! (load ! (from ! (stop !)) (look ! 32 refl)) (and-then ! (load ! (from ! (stop !)) (look ! 30 refl)) (and-then ! (load ! (from ! (stop !)) (look ! 28 refl)) (and-then ! (load ! (from ! (stop !)) (look ! 24 refl)) (no-more !)))))) (λ w3.
         use1 W (later (some (λ (h : Unit {0}). ((‵ (flft (ν ∷ []) fullShare) ⊛ ‵ (flft κ1 q1) ⊛ ‵ (flft κ2 q2) ⊛ ‵ (flft κ3 q3) ⊛ ‵ ftrue) ⊛ ‵ (unit .own h (w3 ∷ []))) ⊛ raw (ensured 𝓤 H A add-triangles.ended (add-triangles.clauses 𝓤 H A mem run) (lfts3 ν δ) (args3 ν δ) tt h)))) (id⊢ 𝓤 _) $ await ! tt $ pick ! (λ r3.
-        split ! $ move ! (1 ∷ []) $  use1 W (some (λ (zs : List Shell × (Unit {0} × (Unit {0} × (Unit {0} × (Unit {0} × Unit {0}))))). ‵ (lasts add-triangles.ended (lfts3 ν δ) (args3 ν δ) zs) ⊛ raw (fact 𝓤 (zs .0 ≡ three)))) (id⊢ 𝓤 _) $ pick ! (λ zs3.
-        split ! $ move ! (1 ∷ []) $ heard ! (zs3 .0 ≡ three) (λ e3.  fsplit ! $ fsplit ! $ move ! (1 ∷ []) $  feqL ! (λ l-ys3.  move ! (1 ∷ []) $ drop ! $ move ! (1 ∷ []) $ split ! $ move ! (1 ∷ []) $ peeks ! unit (Is unit) (shows 𝓤 H A unit) r3 (w3 ∷ []) (λ is-r3.
+        split ! $ move ! (1 ∷ []) $ use1 W (some (λ (us : List Shell × (Unit {0} × (Unit {0} × (Unit {0} × (Unit {0} × Unit {0}))))). ‵ (lasts add-triangles.ended (lfts3 ν δ) (args3 ν δ) us) ⊛ raw (fact 𝓤 ((us .0) ≡ three)))) (id⊢ 𝓤 _) $ pick ! (λ zs3.
+        split ! $ move ! (1 ∷ []) $ heard ! ((zs3 .0) ≡ three) (λ e3. fsplit ! $ fsplit ! $ move ! (1 ∷ []) $ feqL ! (λ l-ys3. move ! (1 ∷ []) $ drop ! $ move ! (1 ∷ []) $ split ! $ move ! (1 ∷ []) $ peeks ! unit (Is unit) (shows 𝓤 H A unit) r3 (w3 ∷ []) (λ is-r3.
         land ! (from ! (stop !)) (store ! 24 refl (nothing-lawful 𝓤 H A W .typed r3 _ is-r3 .0)) $ drop ! $ split ! $ move ! (1 ∷ []) $ split ! $ move ! (1 ∷ []) $ split ! $ move ! (1 ∷ []) $ split ! $ move ! (1 ∷ []) $ drop ! $ move ! (3 ∷ 8 ∷ 9 ∷ 10 ∷ 11 ∷ 4 ∷ []) $ comes ! E tt (length ys) two (zs3 .0) b-ys o-ys long-two room-ys l-ys3 $ move ! (0 ∷ 7 ∷ 6 ∷ 5 ∷ 8 ∷ 1 ∷ 4 ∷ 3 ∷ 2 ∷ 9 ∷ []) $
         -- [ys; numbers; points; triangles; marks; tok0; tok1; tok2; tok3; tok4; _14; _13; _12; _11; _10; _9; _8; _7; _6; _5; _4; _3; _2; _1; _0]
         rewrite ! 0 (λ (us : List Shell). ‵ (Mut κ0 γ-ys b-ys o-ys (length ys) us)) e3 refl $

@@ -9,13 +9,13 @@ refused-requires : tie.Need-refused-requires
 refused-requires c κs = search needs
 
 returns : tie.Need-returns
-returns c = 
+returns c =
     let r = c .before in
     let g = r .before .before .before .before .before .before .args in
     ends-refused (g .points .now) (g .triangles .now) (g .marks .now) (g .numbers .now) (g .work .now) (g .records) (r .refused .result) (r .refused .ensures) (c .if1 .taken)
 
 unite-requires : tie.Need-unite-requires
-unite-requires c κs = 
+unite-requires c κs =
     let r = c .before .before in
     let g = r .before .before .before .before .before .before .args in
     let none = c .before .if1 .left in
@@ -23,7 +23,7 @@ unite-requires c κs =
     (omega (arith, ok .work-long, ok .few-points), (omega (arith, ok .work-long), ok .corners-fit))
 
 count-requires : tie.Need-count-requires
-count-requires c κs = 
+count-requires c κs =
     let r = c .before .before .before .before .before .before in
     let g = r .before .before .before .before .before .before .args in
     let none = c .before .before .before .before .before .if1 .left in
@@ -37,13 +37,13 @@ same-length : tie.Need-same-length
 same-length c = search needs
 
 returns-2 : tie.Need-returns-2
-returns-2 c = 
+returns-2 c =
     let r = c .before .before .before .before .before .before .before .before .before .before .before .before in
     let g = r .before .before .before .before .before .before .args in
     ends-crowded (g .points .now) (g .triangles .now) (g .marks .now) (g .numbers .now) (g .work .now) (g .records) (r .refused .result) (r .refused .ensures) (c .before .before .before .before .before .before .before .before .before .before .before .if1 .left) (c .before .before .before .before .before .before .before .before .before .unite .last .0) _ (c .before .before .before .before .before .before .before .before .before .unite .ensures) (c .before .before .before .before .before .count .result) (c .before .before .before .before .before .count .ensures) (c .before .before .clear .ensures) (c .before .before .before .before .if2 .taken)
 
 number-requires : tie.Need-number-requires
-number-requires c κs = 
+number-requires c κs =
     let r = c .before .before .before .before .before .before .before .before .before .before in
     let g = r .before .before .before .before .before .before .args in
     let none = c .before .before .before .before .before .before .before .before .before .if1 .left in
@@ -60,7 +60,7 @@ same-length-3 : tie.Need-same-length-3
 same-length-3 c = search needs
 
 returns-3 : tie.Need-returns-3
-returns-3 c = 
+returns-3 c =
     let r = c .before .before .before .before .before .before .before .before .before .before .before .before .before .before .before .before .before in
     let g = r .before .before .before .before .before .before .args in
     ends-granted (g .points .now) (g .triangles .now) (g .marks .now) (g .numbers .now) (g .work .now) (g .records) (r .refused .result) (r .refused .ensures) (c .before .before .before .before .before .before .before .before .before .before .before .before .before .before .before .before .if1 .left) (c .before .before .before .before .before .before .before .before .before .before .before .before .before .before .unite .last .0) _ (c .before .before .before .before .before .before .before .before .before .before .before .before .before .before .unite .ensures) (c .before .before .before .before .before .before .before .before .before .before .count .result) (c .before .before .before .before .before .before .before .before .before .before .count .ensures) (c .before .before .clear2 .ensures) _ (c .before .before .before .before .before .before .number .ensures) (c .before .before .before .before .before .before .before .before .before .if2 .left)

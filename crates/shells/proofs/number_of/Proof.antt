@@ -20,7 +20,7 @@ wide-requires : tie.Need-wide-requires
 wide-requires c κs = search needs
 
 number-at-requires : tie.Need-number-at-requires
-number-at-requires c κs = 
+number-at-requires c κs =
     let g = c .before .before .before .before in
     omega (arith, c .wide .ensures, corners (g .args .triangles .now) (length (g .args .numbers .now)) (g .args .k) (g .pre .0) (g .pre .1) .first)
 

@@ -60,7 +60,7 @@ long-requires-3 : tie.Need-long-requires-3
 long-requires-3 c κs = search needs
 
 returns : tie.Need-returns
-returns c = 
+returns c =
     let g = c .before .before .before .before .before .before .before in
     let e : _≡_ {A = Place} (record { x = c .before .before .before .before .long .result; y = c .before .before .long2 .result; z = c .long3 .result }) (placeOf (g .args .points .now) (g .args .p))
     = rw (c .before .before .before .before .long .ensures, c .before .before .long2 .ensures, c .long3 .ensures) in

@@ -74,7 +74,7 @@ module _ {M : Type 1} (𝓤 : URA M) (H : Heap 𝓤) (A : Atoms 𝓤) (W : Given
         use2 W (raw (Blank 𝓤 H A mem run .pre to)) (asked) $
         calls-at ! fm (Blank 𝓤 H A mem run) known-blank to (no-more !) (λ w.
         use1 W (later (some (λ (h : Shell). ((‵ ftrue) ⊛ ‵ (R .own h (w ∷ []))) ⊛ raw (ensured 𝓤 H A blank.ended (blank.clauses 𝓤 H A mem run) lfts args tt h)))) (id⊢ 𝓤 _) $ await ! tt $ pick ! (λ r.
-        split ! $ move ! (1 ∷ []) $  use1 W (raw (fact 𝓤 (r ≡ none))) (said r) $ heard ! (r ≡ none) (λ e.  split ! $ move ! (1 ∷ []) $ rewrite ! 0 (λ (h : Shell). ‵ (R .own h (w ∷ []))) e refl $ peeks ! R (Is R) (shows 𝓤 H A R) none (w ∷ []) (λ is-r.
+        split ! $ move ! (1 ∷ []) $ use1 W (raw (fact 𝓤 (r ≡ none))) (said r) $ heard ! (r ≡ none) (λ e. split ! $ move ! (1 ∷ []) $ rewrite ! 0 (λ (h : Shell). ‵ (R .own h (w ∷ []))) e refl $ peeks ! R (Is R) (shows 𝓤 H A R) none (w ∷ []) (λ is-r.
         land ! (from ! (stop !)) (init ! 8 refl (typed 𝓤 H A W none _ is-r)) $ rewrite ! 8 (λ (u : Val). ‵ (fat fullShare ty l₃ 0 u)) (same none w is-r) refl $ drop ! $ drop ! $
         -- [ys; tok0; _5; _4; _3; _2; _1; _0]
         assigns ! (bin ! (load ! (from ! (stop !)) (look ! 8 refl)) (lit ! tt) (record { fits = fits-at E n (length ys) pre room-ys })) (from ! (stop !)) (init ! 4 refl (tt, record { fits = fits-at E n (length ys) pre room-ys })) $

@@ -18,7 +18,7 @@ returns c = rw (sym (c .before .check .ensures), ne-eqb (c .before .check .resul
 
 returns-2 : tie.Need-returns-2
 unfolding refusal roomsFit
-returns-2 c = 
+returns-2 c =
     let g = c .before .before .before .before .before .before .args in
     rw (sym (c .before .before .check .ensures), eq-eqb (c .before .before .check .result) 0 (c .before .if1 .left), ne-eqb (g .numbers) (length (g .marks .now)) (c .if2 .taken))
 
@@ -27,13 +27,13 @@ mul-if3 c = search needs
 
 returns-3 : tie.Need-returns-3
 unfolding refusal roomsFit
-returns-3 c = 
+returns-3 c =
     let g = c .before .before .before .before .before .before .before .args in
     rw (sym (c .before .before .before .check .ensures), eq-eqb (c .before .before .before .check .result) 0 (c .before .before .if1 .left), eq-eqb (g .numbers) (length (g .marks .now)) (c .before .if2 .left), ne-eqb (g .work) (2 * length (g .marks .now)) (c .if3 .taken))
 
 returns-4 : tie.Need-returns-4
 unfolding refusal roomsFit
-returns-4 c = 
+returns-4 c =
     let g = c .before .before .before .before .before .before .before .args in
     rw (sym (c .before .before .before .check .ensures), eq-eqb (c .before .before .before .check .result) 0 (c .before .before .if1 .left), eq-eqb (g .numbers) (length (g .marks .now)) (c .before .if2 .left), eq-eqb (g .work) (2 * length (g .marks .now)) (c .if3 .left))
 

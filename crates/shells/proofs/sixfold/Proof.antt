@@ -46,7 +46,7 @@ wide-requires : tie.Need-wide-requires
 wide-requires c κs = search needs
 
 place-of-requires : tie.Need-place-of-requires
-place-of-requires c κs = 
+place-of-requires c κs =
     let g = c .before .before .before .before in
     let t = corners (g .args .triangles .now) (length (g .args .points .now) / 3) (g .args .k) (g .pre .0 .corners) (g .pre .1) in
     (omega (arith, c .wide .ensures, t .first), g .pre .0 .near)
@@ -64,7 +64,7 @@ wide-requires-2 : tie.Need-wide-requires-2
 wide-requires-2 c κs = search needs
 
 place-of-requires-2 : tie.Need-place-of-requires-2
-place-of-requires-2 c κs = 
+place-of-requires-2 c κs =
     let g = c .before .before .before .before .before .before .before in
     let t = corners (g .args .triangles .now) (length (g .args .points .now) / 3) (g .args .k) (g .pre .0 .corners) (g .pre .1) in
     (omega (arith, c .wide2 .ensures, t .second), g .pre .0 .near)
@@ -82,7 +82,7 @@ wide-requires-3 : tie.Need-wide-requires-3
 wide-requires-3 c κs = search needs
 
 place-of-requires-3 : tie.Need-place-of-requires-3
-place-of-requires-3 c κs = 
+place-of-requires-3 c κs =
     let g = c .before .before .before .before .before .before .before .before .before .before in
     let t = corners (g .args .triangles .now) (length (g .args .points .now) / 3) (g .args .k) (g .pre .0 .corners) (g .pre .1) in
     (omega (arith, c .wide3 .ensures, t .third), g .pre .0 .near)
@@ -94,15 +94,16 @@ diagonals-requires-2 : tie.Need-diagonals-requires-2
 diagonals-requires-2 c κs = search needs
 
 excess-requires : tie.Need-excess-requires
-excess-requires c κs = 
+excess-requires c κs =
     let z = c .before .before in
     let y = c .before .before .before .before .before in
-    let x = c .before .before .before .before .before .before .before .before in
-    (small _ (x .place-of .result) (y .place-of2 .result) (z .place-of3 .result) (x .place-of .ensures .1) (y .place-of2 .ensures .1) (z .place-of3 .ensures .1) (c .before .diagonals .ensures),
-    small _ (z .place-of3 .result) (y .place-of2 .result) (x .place-of .result) (z .place-of3 .ensures .1) (y .place-of2 .ensures .1) (x .place-of .ensures .1) (c .diagonals2 .ensures))
+    let x = c .before .before .before .before .before .before .before .before in (
+      small _ (x .place-of .result) (y .place-of2 .result) (z .place-of3 .result) (x .place-of .ensures .1) (y .place-of2 .ensures .1) (z .place-of3 .ensures .1) (c .before .diagonals .ensures),
+      small _ (z .place-of3 .result) (y .place-of2 .result) (x .place-of .result) (z .place-of3 .ensures .1) (y .place-of2 .ensures .1) (x .place-of .ensures .1) (c .diagonals2 .ensures),
+    )
 
 returns : tie.Need-returns
-returns c = 
+returns c =
     let d = c .before .before in
     let z = c .before .before .before in
     let y = c .before .before .before .before .before .before in

@@ -17,7 +17,7 @@ sixfold-requires : tie.Need-sixfold-requires
 sixfold-requires c κs = search needs
 
 sum-requires : tie.Need-sum-requires
-sum-requires c κs = 
+sum-requires c κs =
     let g = c .before .before .before .before in
     let u = g .args .s .volume in
     let d = c .before .sixfold .result in
@@ -29,7 +29,7 @@ add-t7 c = search needs
 
 returns : tie.Need-returns
 unfolding withTriangle
-returns c = 
+returns c =
     let t = c .before .before in
     let g = t .before .before .before .before in
     let u = g .args .s .volume in

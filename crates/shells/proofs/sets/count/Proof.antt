@@ -54,7 +54,7 @@ loop-less : tie.Need-loop-less Inv-loop μ-loop
 loop-less c = omega arith
 
 loop-again : tie.Need-loop-again Inv-loop μ-loop
-loop-again c = 
+loop-again c =
     let l = c .before .before .before .before in
     let came : ((c .before .wide .result ≡ l .loop .p) × (c .if1 .roots ≡ l .loop .roots + 1)) ⊎ ((c .before .wide .result ≡ l .loop .p → ⊥) × (c .if1 .roots ≡ l .loop .roots))
     = ⊎-elim (λ a. inl (a .0 .taken, a .1)) (λ b. inr (b .0 .left, b .1)) (c .if1 .came) in

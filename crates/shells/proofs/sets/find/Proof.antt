@@ -60,7 +60,7 @@ wide-requires : tie.Need-wide-requires Inv-loop μ-loop
 wide-requires c κs = search needs
 
 loop-holds : tie.Need-loop-holds Inv-loop μ-loop
-loop-holds c = 
+loop-holds c =
     let a = c .before .before .before .args in
     record {
       same = same-start (a .room .now) (c .before .before .before .pre .0);
@@ -87,12 +87,12 @@ wide-requires-2 : tie.Need-wide-requires-2 Inv-loop μ-loop
 wide-requires-2 c κs = search needs
 
 mul-wide-2 : tie.Need-mul-wide-2 Inv-loop μ-loop
-mul-wide-2 c = 
+mul-wide-2 c =
     let l = c .before .before .before .loop in
     omega (arith, c .wide2 .ensures, l .inv .same .falls (l .above))
 
 slice-read-wide-2 : tie.Need-slice-read-wide-2 Inv-loop μ-loop
-slice-read-wide-2 c = 
+slice-read-wide-2 c =
     let l = c .before .before .before .before .loop in
     simp length-set (omega (arith, c .before .wide2 .ensures, l .inv .same .falls (l .above)))
 
@@ -100,12 +100,12 @@ wide-requires-3 : tie.Need-wide-requires-3 Inv-loop μ-loop
 wide-requires-3 c κs = search needs
 
 loop-less : tie.Need-loop-less Inv-loop μ-loop
-loop-less c = 
+loop-less c =
     let l = c .before .before .before .before .before .loop in
     omega (arith, c .before .before .wide2 .ensures, l .inv .same .falls (l .above))
 
 loop-again : tie.Need-loop-again Inv-loop μ-loop
-loop-again c = 
+loop-again c =
     let l = c .before .before .before .before .before .loop in
     turn _ (l .room) _ (l .p) (l .above) _ _ _ (l .inv) refl (c .before .before .wide2 .ensures) (c .wide3 .ensures)
 
@@ -113,7 +113,7 @@ same-length : tie.Need-same-length Inv-loop μ-loop
 same-length c = c .before .loop .inv .long
 
 returns : tie.Need-returns Inv-loop μ-loop
-returns c = 
+returns c =
     let a = c .before .before .before .before .before .args in
     let l = c .before .loop in
     let top : parent (l .room) (l .p) ≡ l .p = sym (l .inv .here) ∙ c .loop-test .left in

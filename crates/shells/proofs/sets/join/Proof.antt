@@ -44,7 +44,7 @@ find-requires-2 : tie.Need-find-requires-2
 find-requires-2 c κs = search needs
 
 cast-room : tie.Need-cast-room
-cast-room c = 
+cast-room c =
     let k = c .before .before .before in
     let f = k .before .before .before .before in
     let g = f .before .before .before in
@@ -52,7 +52,7 @@ cast-room c =
     omega (arith, r .first-small, r .second-small, r .same .long)
 
 mul-room : tie.Need-mul-room
-mul-room c = 
+mul-room c =
     let k = c .before .before .before in
     let f = k .before .before .before .before in
     let g = f .before .before .before in
@@ -60,7 +60,7 @@ mul-room c =
     omega (arith, r .first-small, r .second-small, r .same .long)
 
 slice-write-room : tie.Need-slice-write-room
-slice-write-room c = 
+slice-write-room c =
     let k = c .before .before .before in
     let f = k .before .before .before .before in
     let g = f .before .before .before in
@@ -68,7 +68,7 @@ slice-write-room c =
     omega (arith, r .first-small, r .second-small, r .same .long)
 
 cast-room-2 : tie.Need-cast-room-2
-cast-room-2 c = 
+cast-room-2 c =
     let k = c .before .before .before in
     let f = k .before .before .before .before in
     let g = f .before .before .before in
@@ -76,7 +76,7 @@ cast-room-2 c =
     omega (arith, r .first-small, r .second-small, r .same .long)
 
 mul-room-2 : tie.Need-mul-room-2
-mul-room-2 c = 
+mul-room-2 c =
     let k = c .before .before .before in
     let f = k .before .before .before .before in
     let g = f .before .before .before in
@@ -84,7 +84,7 @@ mul-room-2 c =
     omega (arith, r .first-small, r .second-small, r .same .long)
 
 slice-write-room-2 : tie.Need-slice-write-room-2
-slice-write-room-2 c = 
+slice-write-room-2 c =
     let k = c .before .before .before in
     let f = k .before .before .before .before in
     let g = f .before .before .before in
@@ -92,7 +92,7 @@ slice-write-room-2 c =
     omega (arith, r .first-small, r .second-small, r .same .long)
 
 same-length : tie.Need-same-length
-same-length c = 
+same-length c =
     let k = c .before .before .before in
     let f = k .before .before .before .before in
     let g = f .before .before .before in
@@ -100,7 +100,7 @@ same-length c =
     length-set (k .find2 .last .0) (k .find2 .result) (f .find .result) ∙ r .same .long
 
 returns : tie.Need-returns
-returns c = 
+returns c =
     let k = c .before .before .before in
     let f = k .before .before .before .before in
     let g = f .before .before .before in
@@ -108,7 +108,7 @@ returns c =
     link (g .args .room .now) (k .find2 .last .0) (r .falls) (r .same) (g .args .a) (g .args .b) (r .a-small) (r .b-small) (f .find .result) (k .find2 .result) (r .at-first) (r .at-second) (omega arith)
 
 same-length-2 : tie.Need-same-length-2
-same-length-2 c = 
+same-length-2 c =
     let k = c .before .before .before in
     let f = k .before .before .before .before in
     let g = f .before .before .before in
@@ -116,7 +116,7 @@ same-length-2 c =
     length-set (k .find2 .last .0) (f .find .result) (k .find2 .result) ∙ r .same .long
 
 returns-2 : tie.Need-returns-2
-returns-2 c = 
+returns-2 c =
     let k = c .before .before .before in
     let f = k .before .before .before .before in
     let g = f .before .before .before in

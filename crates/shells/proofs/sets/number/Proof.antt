@@ -77,7 +77,7 @@ abbrev μ-loop : tie.MeasureT-loop
 
 loop-holds : tie.Need-loop-holds Inv-loop μ-loop
 unfolding countTo sumTo
-loop-holds c = 
+loop-holds c =
     let old = c .before .before .args .numbers .now in
     record { long = refl; small = omega arith; few = omega arith; count = refl; ranks = sym (laid-none (rankOf (c .before .before .args .room .now)) old) }
 
@@ -100,12 +100,12 @@ add-roots : tie.Need-add-roots Inv-loop μ-loop
 add-roots c = omega arith
 
 mul-numbers-2 : tie.Need-mul-numbers-2 Inv-loop μ-loop
-mul-numbers-2 c = 
+mul-numbers-2 c =
     let l = c .before .before .before .before in
     omega (arith, c .before .wide .ensures, l .before .before .before .pre .0 (l .loop .p))
 
 slice-read-numbers : tie.Need-slice-read-numbers Inv-loop μ-loop
-slice-read-numbers c = 
+slice-read-numbers c =
     let l = c .before .before .before .before .before in
     omega (arith, c .before .before .wide .ensures, l .before .before .before .pre .0 (l .loop .p))
 
@@ -122,7 +122,7 @@ loop-less : tie.Need-loop-less Inv-loop μ-loop
 loop-less c = omega arith
 
 loop-again : tie.Need-loop-again Inv-loop μ-loop
-loop-again c = 
+loop-again c =
     let l = c .before .before .before .before in
     let room = l .before .before .before .args .room .now in
     let old = l .before .before .before .args .numbers .now in
@@ -138,7 +138,7 @@ same-length : tie.Need-same-length Inv-loop μ-loop
 same-length c = c .before .loop .inv .long
 
 returns : tie.Need-returns Inv-loop μ-loop
-returns c = 
+returns c =
     let l = c .before .loop in
     let room = c .before .before .before .before .args .room .now in
     let old = c .before .before .before .before .args .numbers .now in

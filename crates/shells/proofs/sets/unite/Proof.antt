@@ -22,7 +22,7 @@ part-requires : tie.Need-part-requires Inv-loop μ-loop
 part-requires c κs = c .before .before .before .pre .0
 
 loop-holds : tie.Need-loop-holds Inv-loop μ-loop
-loop-holds c = 
+loop-holds c =
     let f = c .before .before in
     let g = f .before .before .before .before in
     let e : length (f .part .last .0) ≡ length (g .args .room .now) = ap length (f .part .ensures) ∙ length-list (length (g .args .room .now)) (λ p. p) in
@@ -50,7 +50,7 @@ wide-requires-2 : tie.Need-wide-requires-2 Inv-loop μ-loop
 wide-requires-2 c κs = search needs
 
 join-requires : tie.Need-join-requires Inv-loop μ-loop
-join-requires c κs = 
+join-requires c κs =
     let l = c .before .before .before .before .before .before in
     let f = l .before .before .before in
     let g = f .before .before .before .before in
@@ -72,7 +72,7 @@ wide-requires-3 : tie.Need-wide-requires-3 Inv-loop μ-loop
 wide-requires-3 c κs = search needs
 
 join-requires-2 : tie.Need-join-requires-2 Inv-loop μ-loop
-join-requires-2 c κs = 
+join-requires-2 c κs =
     let l = c .before .before .before .before .before .before .before .before .before .before .before .before in
     let f = l .before .before .before in
     let g = f .before .before .before .before in
@@ -92,7 +92,7 @@ loop-less : tie.Need-loop-less Inv-loop μ-loop
 loop-less c = omega arith
 
 loop-again : tie.Need-loop-again Inv-loop μ-loop
-loop-again c = 
+loop-again c =
     let l = c .before .before .before .before .before .before .before .before .before .before .before .before .before .before .before in
     let f = l .before .before .before in
     let g = f .before .before .before .before in
@@ -103,7 +103,7 @@ loop-again c =
     (uniting-turn ts (f .part .last .0) (l .loop .room) (j .join .last .0) (m .join2 .last .0) (l .loop .k) (l .loop .at) _ _ _ turn (l .loop .inv .2) (j .before .wide2 .ensures) (j .before .before .before .before .wide .ensures) (m .before .wide3 .ensures) (l .loop .inv .0) (j .join .ensures) (m .join2 .ensures), omega (arith, turn), omega arith)
 
 same-length : tie.Need-same-length Inv-loop μ-loop
-same-length c = 
+same-length c =
     let l = c .before in
     let f = l .before .before .before in
     let g = f .before .before .before .before in
@@ -111,7 +111,7 @@ same-length c =
     l .loop .inv .0 .long ∙ e
 
 returns : tie.Need-returns Inv-loop μ-loop
-returns c = 
+returns c =
     let l = c .before in
     let f = l .before .before .before in
     let g = f .before .before .before .before in
