@@ -2,6 +2,7 @@
 pub mod Tests
 pub mod Ranges
 pub mod Keep
+pub mod Parted
 pub mod Rows
 pub mod Sums
 pub mod Rearranged

@@ -1,7 +1,7 @@
 -- What is in a list, by a test of equality.
 use mathlib.Core.Path.{_≡_, refl, ap, sym, _∙_}
 use mathlib.Core.List.{List, [], _∷_, _++_}
-use mathlib.Core.Bool.{Bool, true, false, _||_, or-assoc, false≢true}
+use mathlib.Core.Bool.{Bool, true, false, _||_, or-assoc}
 use mathlib.Core.Logic.{_⊎_, inl, inr}
 use Rattle.laws.specs.Order.{isIn}
 

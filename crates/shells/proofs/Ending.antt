@@ -1,19 +1,16 @@
 -- The two ways that the call ends, from what the list of numbers says.
 use mathlib.Core.Path.{_≡_, refl, ap, sym, _∙_, subst}
 use mathlib.Core.List.{List}
-use mathlib.Core.Bool.{Bool, true, false, cond, not}
-use Prim.Native.Nat.{ℕ, _<_, _≤_}
+use mathlib.Core.Bool.{Bool, true, false, not}
+use Prim.Native.Nat.{ℕ, _≤_}
 use native.Mathlib.Omega.{arith}
 use lib.Dec.{T, eqb}
 use lib.ListN.{length}
-use borrow.Author.Tests.{eq-eqb, ne-eqb, eqb-true, eqb-false}
-use Rattle.laws.specs.Room.{laid}
-use Rattle.laws.specs.Values.{listTo}
+use borrow.Author.Tests.{eq-eqb, ne-eqb, eqb-true}
 use Rattle.shells.specs.declared.Shell.{Shell}
 use Rattle.shells.specs.Led.{trianglesIn}
 use Rattle.shells.specs.Numbering.{Numbering}
-use Rattle.shells.specs.Record.{recordOf}
-use Rattle.shells.specs.Promise.{Outcome, left, refusal, Lists, refused, crowded, granted, recordsAfter, Shells}
+use Rattle.shells.specs.Promise.{left, Lists, refused, crowded, granted, recordsAfter, Shells}
 use Rattle.shells.specs.Grown.{filled, FillFits}
 use Rattle.shells.proofs.Sound.{Passed, passed}
 use Rattle.shells.proofs.Made.{fill-fits, made}

@@ -1,7 +1,6 @@
 -- The three ways that a list of shell numbers ends, from what the sets say.
-use mathlib.Core.Path.{_≡_, refl, ap, sym, _∙_, subst}
+use mathlib.Core.Path.{_≡_, ap, sym, _∙_, subst}
 use mathlib.Core.List.{List}
-use mathlib.Core.Bool.{Bool, true}
 use Prim.Native.Nat.{ℕ, _<_, _≤_}
 use native.Mathlib.Omega.{arith}
 use lib.ListN.{length, replicate}
@@ -9,7 +8,7 @@ use Rattle.laws.specs.Range.{countTo}
 use Rattle.laws.specs.Values.{listTo}
 use Rattle.shells.specs.Led.{trianglesIn}
 use Rattle.shells.specs.Numbering.{Numbering}
-use Rattle.shells.specs.Promise.{Outcome, left, refusal, Lists, refused, crowded, granted}
+use Rattle.shells.specs.Promise.{left, refusal, Lists, refused, crowded, granted}
 use Rattle.shells.specs.Sets.{isRoot, rankOf, United}
 use Rattle.shells.proofs.Sound.{Passed, passed}
 use Rattle.shells.proofs.Numbered.{numbered}

@@ -1,34 +1,31 @@
 -- The lists of records on the way: every shell's record is that of its points and triangles so far, and the room behind them is as it was.
 use mathlib.Core.Path.{_≡_, refl, ap, sym, _∙_, subst}
 use mathlib.Core.List.{List, [], _∷_, _++_, append-nil}
-use mathlib.Core.Bool.{Bool, true, false, cond, _||_}
-use Prim.Native.Nat.{ℕ, zero, suc, _+_, _*_, _/_, _<_, _≤_, _^_}
-use native.Mathlib.Nat.{mul-div-cancel-left}
+use mathlib.Core.Bool.{Bool, true, false, cond}
+use Prim.Native.Nat.{ℕ, zero, suc, _/_, _<_, _≤_}
 use native.Mathlib.Omega.{arith}
 use native.Mathlib.Numerals.{add-one}
 use lib.Dec.{eqb}
 use lib.IntN.{ℤ}
 use lib.ListN.{length, getD, set}
 use borrow.Author.Tests.{eq-eqb, ne-eqb}
-use Rattle.laws.specs.Range.{sumTo, countTo, keepTo, joinTo, one-if}
+use Rattle.laws.specs.Range.{sumTo, countTo, keepTo, joinTo}
 use Rattle.laws.specs.Room.{laid}
 use Rattle.laws.specs.Values.{listTo}
-use Rattle.laws.specs.Mesh.{Triangle}
 use Rattle.laws.proofs.Ranges.{keep-cong}
 use Rattle.laws.proofs.Binary.{bit-le}
-use Rattle.laws.proofs.Keep.{length-keep, keep-next, count-next}
+use Rattle.laws.proofs.Keep.{length-keep}
 use Rattle.laws.proofs.Rooms.{length-laid}
 use Rattle.laws.proofs.Values.{length-list, laid-none, laid-more, laid-at, laid-change, list-cong}
-use Rattle.grid.specs.Limits.{mostPoints, mostTriangles, mostCoordinate}
 use Rattle.mesh.specs.Mesh.{triangleCount, triangleAt}
-use Rattle.mesh.specs.Check.{trianglesFit, allWithin}
+use Rattle.mesh.specs.Check.{trianglesFit}
 use Rattle.shells.specs.declared.Shell.{Shell}
-use Rattle.shells.specs.Led.{Led, trianglesIn}
+use Rattle.shells.specs.Led.{trianglesIn}
 use Rattle.shells.specs.Numbering.{numberOf, Numbering}
 use Rattle.shells.specs.Record.{sixfold, pointsUnder, namesUnder, trianglesUnder, recordFrom, recordOf}
-use Rattle.shells.specs.Grown.{none, withPoint, withTriangle, PointFits, TriangleFits, MeshFits, changed, emptied, pointsAdded, trianglesAdded, filled, PointTurn, TriangleTurn, FillFits}
-use Rattle.shells.proofs.Sound.{Passed, Corners, corners}
-use Rattle.shells.proofs.Leading.{led-first, led-second, led-on}
+use Rattle.shells.specs.Grown.{none, withPoint, withTriangle, PointFits, TriangleFits, changed, emptied, pointsAdded, trianglesAdded, filled, PointTurn, TriangleTurn, FillFits}
+use Rattle.shells.proofs.Sound.{Passed, corners}
+use Rattle.shells.proofs.OneNumber.{one-number}
 use Rattle.shells.proofs.Making.{with-point, with-triangle, no-record, point-fits, triangle-fits}
 
 count-most : (n : ℕ) (p : ℕ → Bool) → countTo n p ≤ n
@@ -45,14 +42,6 @@ keep-yes n p h = keep-suc n p ∙ rw h
 
 keep-no : (n : ℕ) (p : ℕ → Bool) → p n ≡ false → keepTo (suc n) p ≡ keepTo n p
 keep-no n p h = keep-suc n p ∙ rw h (append-nil (keepTo n p))
-
--- three tests that agree
-or-same : (a b c n : ℕ) → b ≡ a → c ≡ a → (eqb a n || (eqb b n || eqb c n)) ≡ eqb a n
-or-same a b c n eb ec = rw (eb, ec) (go (eqb a n))
-  where
-    go : (t : Bool) → (t || (t || t)) ≡ t
-    go true = refl
-    go false = refl
 
 module _ (points triangles marks numbers : List ℕ) (shells : ℕ) (room : List Shell) (enough : shells ≤ length room) where
   -- does point p, or triangle k by its first corner, have number n
@@ -196,23 +185,13 @@ module _ (points triangles marks found : List ℕ) (shells : ℕ) (room : List S
   pub fill-fits : FillFits points triangles marks found shells room
   fill-fits = record { enough = enough; points-fit = point-turn; triangles-fit = triangle-turn }
 
-  -- a triangle's corners have one number
-  one-number : (n k : ℕ) → k < triangleCount triangles → namesUnder found n (triangleAt triangles k) ≡ eqb (numberOf found (triangleAt triangles k .one)) n
-  unfolding namesUnder
-  one-number n k l =
-      let t = triangleAt triangles k in
-      let c = corners triangles (length marks) k (ok .corners-fit) l in
-      or-same (numberOf found (t .one)) (numberOf found (t .two)) (numberOf found (t .three)) n
-      (sym (N .same (t .one) (t .two) (c .first) (c .second) (led-first triangles k l)))
-      (sym (N .same (t .one) (t .three) (c .first) (c .third) (led-on (trianglesIn triangles) (led-first triangles k l) (led-second triangles k l))))
-
   whole : (n : ℕ) → partly points triangles marks found shells room enough (length found) (triangleCount triangles) n ≡ recordOf points triangles marks found n
   unfolding pointsUnder trianglesUnder
   whole n =
       let byPoint = hasPoint points triangles marks found shells room enough n in
       let byTriangle = hasTriangle points triangles marks found shells room enough n in
       ap (λ v. recordFrom points triangles marks (keepTo v byPoint) (keepTo (triangleCount triangles) byTriangle)) (N .long)
-      ∙ ap (recordFrom points triangles marks (keepTo (length marks) byPoint)) (keep-cong (triangleCount triangles) byTriangle (λ k. namesUnder found n (triangleAt triangles k)) (λ k l. sym (one-number n k l)))
+      ∙ ap (recordFrom points triangles marks (keepTo (length marks) byPoint)) (keep-cong (triangleCount triangles) byTriangle (λ k. namesUnder found n (triangleAt triangles k)) (λ k l. sym (one-number triangles found (length marks) shells (ok .corners-fit) N n k l)))
 
   pub made : filled points triangles marks found shells room ≡ laid (listTo shells (recordOf points triangles marks found)) room
   made =

@@ -1,33 +1,22 @@
 -- Records that grow point by point and triangle by triangle become the records of the shells.
-use mathlib.Core.Path.{_≡_, refl, ap, sym, _∙_, subst}
-use mathlib.Core.List.{List, [], _∷_, _++_, append-nil}
+use mathlib.Core.Path.{_≡_, refl, sym, subst}
+use mathlib.Core.List.{List, [], _∷_, _++_}
 use mathlib.Core.Bool.{Bool, true, false, cond, _||_}
-use Prim.Native.Nat.{ℕ, zero, suc, _+_, _*_, _<_, _≤_, _^_}
-use native.Mathlib.Decide.{decLt}
+use Prim.Native.Nat.{ℕ, suc, _+_, _*_, _<_, _≤_, _^_}
 use native.Mathlib.Nat.{mul-le-mul-right}
-use native.Mathlib.Numerals.{add-one}
 use native.Mathlib.Omega.{arith}
 use lib.Dec.{eqb}
-use lib.IntN.{ℤ, pos, _-ℤ_, _+ℤ_}
-use lib.ListN.{length, getD, set, length-append}
-use borrow.Author.Tests.{eq-eqb, ne-eqb}
+use lib.ListN.{length, getD, length-append}
+use borrow.Author.Tests.{ne-eqb}
 use mir.Syntax.{w64}
 use mir.Val.{SFits}
-use Rattle.laws.specs.Range.{sumTo, countTo, keepTo, joinTo, one-if}
+use Rattle.laws.specs.Range.{one-if}
 use Rattle.laws.specs.Sum.{sumOf}
 use Rattle.laws.specs.Signed.{sumOfℤ}
-use Rattle.laws.specs.Room.{laid}
-use Rattle.laws.specs.Values.{listTo}
-use Rattle.laws.specs.Mesh.{Triangle}
-use Rattle.laws.proofs.Ranges.{keep-cong}
-use Rattle.laws.proofs.Keep.{length-keep, keep-next}
-use Rattle.laws.proofs.Values.{laid-none, laid-more, laid-at, laid-change, list-cong}
 use Rattle.laws.proofs.Differences.{sum-appendℤ, sum-differences, sum-most, difference-fits}
 use Rattle.grid.specs.Limits.{mostPoints, mostTriangles, mostCoordinate}
-use Rattle.mesh.specs.Mesh.{triangleCount, triangleAt}
-use Rattle.mesh.specs.Check.{trianglesFit, allWithin}
-use Rattle.shells.specs.declared.Shell.{Shell}
-use Rattle.shells.specs.Numbering.{numberOf}
+use Rattle.mesh.specs.Mesh.{triangleAt}
+use Rattle.mesh.specs.Check.{allWithin}
 use Rattle.shells.specs.Record.{anyOf, placeOf, diagonals, determinant, sixfold, recordFrom}
 use Rattle.shells.specs.Grown.{none, withPoint, withTriangle, PointFits, TriangleFits, Near, mostProduct}
 use Rattle.shells.proofs.Sound.{within-any}

@@ -1,8 +1,8 @@
 -- Where two points are in one set exactly when sides lead from one to the other, the ranks of the roots are the numbers of the shells.
-use mathlib.Core.Path.{_≡_, refl, ap, sym, _∙_, subst}
+use mathlib.Core.Path.{_≡_, ap, sym, _∙_}
 use mathlib.Core.List.{List}
-use mathlib.Core.Bool.{Bool, true}
-use Prim.Native.Nat.{ℕ, zero, suc, _+_, _<_, _≤_}
+use mathlib.Core.Bool.{true}
+use Prim.Native.Nat.{ℕ, _<_, _≤_}
 use native.Mathlib.Decide.{decLt}
 use native.Mathlib.Omega.{arith}
 use lib.ListN.{length, getD}
@@ -11,9 +11,9 @@ use Rattle.laws.specs.Range.{countTo, keepTo}
 use Rattle.laws.specs.Values.{listTo}
 use Rattle.laws.proofs.Keep.{rank-lt, Ranked, kept-at}
 use Rattle.laws.proofs.Values.{length-list, list-at}
-use Rattle.shells.specs.Led.{Led, trianglesIn}
+use Rattle.shells.specs.Led.{trianglesIn}
 use Rattle.shells.specs.Numbering.{numberOf, Lowest, Used, Numbering}
-use Rattle.shells.specs.Sets.{parent, Falling, root, isRoot, rankOf, United}
+use Rattle.shells.specs.Sets.{parent, root, isRoot, rankOf, United}
 use Rattle.shells.proofs.Leading.{led-same}
 use Rattle.shells.proofs.Roots.{root-top, root-fixed, root-twice, root-le}
 

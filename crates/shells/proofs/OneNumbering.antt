@@ -1,13 +1,11 @@
 -- Any two numberings that the description allows are equal.
-use mathlib.Core.Path.{_≡_, refl, ap, sym, _∙_, subst}
+use mathlib.Core.Path.{_≡_, ap, sym, _∙_}
 use mathlib.Core.List.{List}
-use Prim.Native.Nat.{ℕ, zero, suc, _+_, _<_, _≤_}
+use Prim.Native.Nat.{ℕ, zero, suc, _<_, _≤_}
 use native.Mathlib.Decide.{decLt, ℕ-discrete}
 use native.Mathlib.Omega.{arith}
-use lib.ListN.{length, getD}
 use lib.Seq.{ext-getD}
 use Rattle.laws.specs.Mesh.{Triangle}
-use Rattle.shells.specs.Led.{Led}
 use Rattle.shells.specs.Numbering.{numberOf, Lowest, Used, Numbering}
 
 -- the first of the numbers below n that f takes to k, or that there is none

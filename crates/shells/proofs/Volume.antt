@@ -1,11 +1,8 @@
 -- How large determinants and their sums are: half of what the limits allow is too little to leave 64 bits.
-use mathlib.Core.Path.{_≡_, refl, ap, sym, _∙_}
-use mathlib.Core.List.{List}
-use Prim.Native.Nat.{ℕ, _+_, _*_, _<_, _≤_, _^_}
-use native.Mathlib.Nat.{mul-le-mul, mul-le-mul-right, le-trans}
+use Prim.Native.Nat.{ℕ, _*_, _≤_}
+use native.Mathlib.Nat.{mul-le-mul}
 use native.Mathlib.Omega.{arith}
-use lib.ListN.{length}
-use Rattle.grid.specs.Limits.{mostCoordinate, mostTriangles}
+use Rattle.grid.specs.Limits.{mostCoordinate}
 use Rattle.shells.specs.declared.Place.{Place}
 use Rattle.shells.specs.Record.{diagonals}
 use Rattle.shells.specs.Grown.{Near, mostProduct}

@@ -1,5 +1,5 @@
 -- `shells::place_of` meets its contract: three coordinates, each within the limit. Assumes nothing.
-use mathlib.Core.Path.{_≡_, ap, _∙_, subst, sym}
+use mathlib.Core.Path.{_≡_, subst, sym}
 use mathlib.Core.List.{List}
 use mathlib.Core.Bool.{true}
 use Prim.Native.Nat.{ℕ, _+_, _*_, _<_}

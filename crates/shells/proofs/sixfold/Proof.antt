@@ -1,19 +1,18 @@
 -- `shells::sixfold` meets its contract: the places of three corners, and the determinant of them as rows. Assumes nothing.
-use mathlib.Core.Path.{_≡_, refl, ap, _∙_, subst, sym}
+use mathlib.Core.Path.{_≡_, _∙_, subst, sym}
 use mathlib.Core.List.{List}
-use Prim.Native.Nat.{ℕ, _+_, _*_, _/_, _<_, _≤_, _^_}
+use Prim.Native.Nat.{ℕ, _/_, _<_, _^_}
 use native.Mathlib.Omega.{arith}
 use lib.IntN.{ℤ, pos, _-ℤ_}
-use lib.ListN.{length, getD}
+use lib.ListN.{length}
 use mir.Syntax.{w64}
 use mir.Val.{SFits}
 use mir.Facts.{toZ-ofZ}
 use Rattle.laws.proofs.Differences.{difference-fits}
 use Rattle.laws.specs.Mesh.{triangle}
-use Rattle.mesh.specs.Mesh.{triangleAt}
 use Rattle.shells.specs.declared.Place.{Place}
 use Rattle.shells.specs.Record.{placeOf, diagonals, determinant, sixfold}
-use Rattle.shells.specs.Grown.{Near, mostProduct}
+use Rattle.shells.specs.Grown.{Near}
 use Rattle.shells.proofs.Sound.{corners}
 use Rattle.shells.proofs.Volume.{diagonals-small}
 use borrow.Author.Needs.{needs}

@@ -1,5 +1,4 @@
 -- `shells::with_point` meets its contract: what it asked of the lowest point and the touches is what the definition says. Assumes nothing.
-use native.Mathlib.Omega.{arith}
 use Rattle.shells.specs.Grown.{withPoint, PointFits}
 use borrow.Author.Needs.{needs}
 use Rattle.shells.proofs.with_point.Statement.{statement}

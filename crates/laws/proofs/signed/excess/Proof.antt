@@ -1,13 +1,12 @@
 -- `laws::signed::excess` meets its contract: both numbers are plain as signed ones, and so is their difference. Assumes nothing.
 use mathlib.Core.Path.{_≡_, ap, _∙_, subst, sym}
-use mathlib.Core.Bool.{Bool, true}
+use mathlib.Core.Bool.{Bool}
 use Prim.Native.Nat.{ℕ, _-_, _<_, _^_, suc}
-use lib.Dec.{ltb}
 use lib.IntN.{ℤ, pos, negsuc, _-ℤ_}
 use borrow.Author.Needs.{needs}
 use borrow.Author.Tests.{lt-ltb}
 use mir.Syntax.{w64}
-use mir.Val.{SFits, toZ, ofZ, sel}
+use mir.Val.{SFits, toZ, sel}
 use mir.Facts.{toZ-ofZ}
 use Rattle.laws.proofs.Differences.{difference-fits}
 use Rattle.laws.proofs.signed.excess.Statement.{statement}

@@ -5,13 +5,10 @@ use Prim.Native.Nat.{ℕ, _<_, _≤_}
 use native.Mathlib.Omega.{arith}
 use lib.ListN.{length, getD, set, length-set}
 use borrow.Author.Needs.{needs}
-use Rattle.shells.specs.Sets.{parent, Falling, root, SameSets}
+use Rattle.shells.specs.Sets.{parent, root, SameSets}
 use Rattle.shells.proofs.Roots.{root-parent, root-fixed, halved, same-start, same-then}
 use Rattle.shells.proofs.sets.find.Statement.{statement}
 use Rattle.shells.proofs.sets.find.Tie as tie
-use Rattle.shells.proofs.sets.find.Reads as reads
-use Rattle.shells.proofs.sets.find.Lts as lts
-use Rattle.shells.proofs.sets.wide.Reads as wide-reads
 
 record Finding (old room : List ℕ) (point p above : ℕ) : Type 0 where
   same : SameSets old room

@@ -1,10 +1,10 @@
 -- `shells::sets::join` meets its contract: two roots are found, and the higher goes under the lower. Assumes nothing.
-use mathlib.Core.Path.{_≡_, refl, ap, sym, _∙_}
+use mathlib.Core.Path.{_≡_, _∙_}
 use mathlib.Core.List.{List}
-use Prim.Native.Nat.{ℕ, _<_, _≤_}
+use Prim.Native.Nat.{ℕ, _<_}
 use native.Mathlib.Omega.{arith}
-use lib.ListN.{length, set, length-set}
-use Rattle.shells.specs.Sets.{Falling, root, SameSets, Joined}
+use lib.ListN.{length, length-set}
+use Rattle.shells.specs.Sets.{Falling, root, SameSets}
 use Rattle.shells.proofs.Roots.{root-le, same-then}
 use Rattle.shells.proofs.Linked.{link, joined-back}
 use borrow.Author.Needs.{needs}

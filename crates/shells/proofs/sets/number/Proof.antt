@@ -1,6 +1,5 @@
 -- `shells::sets::number` meets its contract: the ranks so far, then the room as it was. Assumes nothing.
 use mathlib.Core.Path.{_≡_, refl, ap, sym, _∙_}
-use mathlib.Core.Bool.{true, false}
 use mathlib.Core.List.{List}
 use mathlib.Core.Logic.{⊎-elim}
 use Prim.Native.Nat.{ℕ, _+_, _-_, _<_, _≤_}
@@ -14,13 +13,10 @@ use Rattle.laws.specs.Room.{laid}
 use Rattle.laws.specs.Values.{listTo}
 use Rattle.laws.proofs.Keep.{count-next}
 use Rattle.laws.proofs.Values.{laid-none, laid-more, laid-all, laid-at}
-use Rattle.shells.specs.Sets.{parent, Falling, root, isRoot, rankOf}
+use Rattle.shells.specs.Sets.{parent, Falling, isRoot, rankOf}
 use Rattle.shells.proofs.Roots.{root-fixed, root-parent}
 use Rattle.shells.proofs.sets.number.Statement.{statement}
 use Rattle.shells.proofs.sets.number.Tie as tie
-use Rattle.shells.proofs.sets.number.Reads as reads
-use Rattle.shells.proofs.sets.number.Lts as lts
-use Rattle.shells.proofs.sets.wide.Reads as wide-reads
 
 ne-lt : (a b : ℕ) → (a ≡ b → ⊥) → a ≤ b → a < b
 ne-lt a b n l = go (decLt a b)

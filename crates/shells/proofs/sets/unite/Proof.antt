@@ -1,10 +1,9 @@
 -- `shells::sets::unite` meets its contract: the corners of the triangles passed are in one set, and nothing else is joined. Assumes nothing.
-use mathlib.Core.Path.{_≡_, refl, ap, sym, _∙_}
-use mathlib.Core.List.{List}
-use Prim.Native.Nat.{ℕ, _+_, _*_, _-_, _<_, _≤_}
+use mathlib.Core.Path.{_≡_, ap, sym, _∙_}
+use Prim.Native.Nat.{_*_, _-_, _≤_}
 use native.Mathlib.Omega.{arith}
 use borrow.Author.Needs.{needs}
-use lib.ListN.{length, getD}
+use lib.ListN.{length}
 use Rattle.laws.specs.Values.{listTo}
 use Rattle.laws.proofs.Values.{length-list}
 use Rattle.mesh.specs.Mesh.{triangleCount}
