@@ -3,7 +3,7 @@ ghost use mathlib.Core.Path.{_≡_};
 ghost use mathlib.Core.Bool.{true, cond};
 ghost use lib.Dec.{eqb};
 ghost use Prim.Native.Nat.{_+_, _*_, _<_, _≤_};
-ghost use lib.ListN.{length, getD, set};
+ghost use lib.ListN.{length, getD, set, replicate};
 ghost use mir.Syntax.{w64};
 ghost use mir.Val.{SFits};
 ghost use Rattle.grid.specs.Limits.{mostPoints, mostCoordinate, mostTriangles};
@@ -57,6 +57,14 @@ fn refused(points: &[u32], triangles: &[u32], marks: &[u8], numbers: usize, work
     0
 }
 
+// More shells than records: the work room is left zero.
+fn crowded(work: &mut [u32]) -> Listed
+    ensures { λ r. ⌜ (r ≡ record { number = 11; shells = 0 }) × (now (work .exit) ≡ replicate (length (now (work .entry))) 0) ⌝ }
+{
+    rooms::clear(work);
+    Listed { number: 11, shells: 0 }
+}
+
 // The shell number of each point, where so many records are lent: all of the call but the records.
 fn list_numbers(
     points: &[u32],
@@ -76,11 +84,7 @@ fn list_numbers(
     sets::unite(work, triangles, v);
     let shells = sets::count(work, v);
     if records < shells {
-        rooms::clear(work);
-        return Listed {
-            number: 11,
-            shells: 0,
-        };
+        return crowded(work);
     }
     sets::number(work, numbers);
     rooms::clear(work);

@@ -18,7 +18,7 @@ pub fn wide(x: u32) -> usize
 }
 
 // Every point alone, its own root.
-fn part(room: &mut [u32])
+fn alone(room: &mut [u32])
     requires { ⌜ length (now room) ≤ 2 * mostPoints ⌝ }
     ensures { λ _. ⌜ now (room .exit) ≡ listTo (length (now (room .entry))) (λ p. p) ⌝ }
 {
@@ -70,7 +70,7 @@ pub fn unite(room: &mut [u32], triangles: &[u32], v: usize)
     requires { ⌜ trianglesFit (now triangles) v ≡ true ⌝ }
     ensures { λ _. ⌜ United (now (triangles .entry)) (now (room .entry)) (now (room .exit)) ⌝ }
 {
-    part(room);
+    alone(room);
     let count = triangles.len() / 3;
     let mut k = 0;
     let mut at = 0;
@@ -106,13 +106,13 @@ pub fn number(room: &[u32], numbers: &mut [u32])
     requires { ⌜ length (now numbers) ≤ mostPoints ⌝ }
     ensures { λ _. ⌜ now (numbers .exit) ≡ listTo (length (now (numbers .entry))) (rankOf (now (room .entry))) ⌝ }
 {
-    let mut roots = 0;
+    let mut next = 0;
     let mut p = 0;
     while p < numbers.len() {
         let above = wide(room[p]);
         if above == p {
-            numbers[p] = roots;
-            roots += 1;
+            numbers[p] = next;
+            next += 1;
         } else {
             numbers[p] = numbers[above];
         }

@@ -30,8 +30,8 @@ count-requires c κs =
     let ok = passes (g .points .now) (g .triangles .now) (g .marks .now) (g .numbers .now) (g .work .now) (g .records) (r .refused .result) (r .refused .ensures) none in
     omega (arith, c .before .before .before .unite .ensures .long, ok .work-long)
 
-clear-requires : tie.Need-clear-requires
-clear-requires c κs = search needs
+crowded-requires : tie.Need-crowded-requires
+crowded-requires c κs = search needs
 
 same-length : tie.Need-same-length
 same-length c = search needs
@@ -40,7 +40,7 @@ returns-2 : tie.Need-returns-2
 returns-2 c =
     let r = c .before .before .before .before .before .before .before .before .before .before .before .before in
     let g = r .before .before .before .before .before .before .args in
-    ends-crowded (g .points .now) (g .triangles .now) (g .marks .now) (g .numbers .now) (g .work .now) (g .records) (r .refused .result) (r .refused .ensures) (c .before .before .before .before .before .before .before .before .before .before .before .if1 .left) (c .before .before .before .before .before .before .before .before .before .unite .last .0) _ (c .before .before .before .before .before .before .before .before .before .unite .ensures) (c .before .before .before .before .before .count .result) (c .before .before .before .before .before .count .ensures) (c .before .before .clear .ensures) (c .before .before .before .before .if2 .taken)
+    rw (c .before .before .crowded .ensures .0) (ends-crowded (g .points .now) (g .triangles .now) (g .marks .now) (g .numbers .now) (g .work .now) (g .records) (r .refused .result) (r .refused .ensures) (c .before .before .before .before .before .before .before .before .before .before .before .if1 .left) (c .before .before .before .before .before .before .before .before .before .unite .last .0) _ (c .before .before .before .before .before .before .before .before .before .unite .ensures) (c .before .before .before .before .before .count .result) (c .before .before .before .before .before .count .ensures) (c .before .before .crowded .ensures .1) (c .before .before .before .before .if2 .taken))
 
 number-requires : tie.Need-number-requires
 number-requires c κs =
@@ -50,8 +50,8 @@ number-requires c κs =
     let ok = passes (g .points .now) (g .triangles .now) (g .marks .now) (g .numbers .now) (g .work .now) (g .records) (r .refused .result) (r .refused .ensures) none in
     (c .before .before .before .before .before .before .before .unite .ensures .falls, (omega (arith, c .before .before .before .before .before .before .before .unite .ensures .long, ok .work-long, ok .numbers-long), omega (arith, ok .numbers-long, ok .few-points)))
 
-clear-requires-2 : tie.Need-clear-requires-2
-clear-requires-2 c κs = search needs
+clear-requires : tie.Need-clear-requires
+clear-requires c κs = search needs
 
 same-length-2 : tie.Need-same-length-2
 same-length-2 c = search needs
@@ -63,7 +63,7 @@ returns-3 : tie.Need-returns-3
 returns-3 c =
     let r = c .before .before .before .before .before .before .before .before .before .before .before .before .before .before .before .before .before in
     let g = r .before .before .before .before .before .before .args in
-    ends-granted (g .points .now) (g .triangles .now) (g .marks .now) (g .numbers .now) (g .work .now) (g .records) (r .refused .result) (r .refused .ensures) (c .before .before .before .before .before .before .before .before .before .before .before .before .before .before .before .before .if1 .left) (c .before .before .before .before .before .before .before .before .before .before .before .before .before .before .unite .last .0) _ (c .before .before .before .before .before .before .before .before .before .before .before .before .before .before .unite .ensures) (c .before .before .before .before .before .before .before .before .before .before .count .result) (c .before .before .before .before .before .before .before .before .before .before .count .ensures) (c .before .before .clear2 .ensures) _ (c .before .before .before .before .before .before .number .ensures) (c .before .before .before .before .before .before .before .before .before .if2 .left)
+    ends-granted (g .points .now) (g .triangles .now) (g .marks .now) (g .numbers .now) (g .work .now) (g .records) (r .refused .result) (r .refused .ensures) (c .before .before .before .before .before .before .before .before .before .before .before .before .before .before .before .before .if1 .left) (c .before .before .before .before .before .before .before .before .before .before .before .before .before .before .unite .last .0) _ (c .before .before .before .before .before .before .before .before .before .before .before .before .before .before .unite .ensures) (c .before .before .before .before .before .before .before .before .before .before .count .result) (c .before .before .before .before .before .before .before .before .before .before .count .ensures) (c .before .before .clear .ensures) _ (c .before .before .before .before .before .before .number .ensures) (c .before .before .before .before .before .before .before .before .before .if2 .left)
 
 pub list-numbers-spec : {M : Type 1} → statement M
 list-numbers-spec =
@@ -73,11 +73,11 @@ list-numbers-spec =
     returns
     unite-requires
     count-requires
-    clear-requires
+    crowded-requires
     same-length
     returns-2
     number-requires
-    clear-requires-2
+    clear-requires
     same-length-2
     same-length-3
     returns-3)

@@ -66,10 +66,10 @@ module _ (room : List ℕ) (falls : Falling room) (old numbers : List ℕ) (root
       }
 
 abbrev Inv-loop : tie.InvT-loop
-Inv-loop room numbers₀ roots₀ p₀ numbers roots p = Ranks room numbers₀ numbers roots p
+Inv-loop room numbers₀ next₀ p₀ numbers next p = Ranks room numbers₀ numbers next p
 
 abbrev μ-loop : tie.MeasureT-loop
-μ-loop room numbers₀ roots₀ p₀ numbers roots p = length numbers₀ - p
+μ-loop room numbers₀ next₀ p₀ numbers next p = length numbers₀ - p
 
 loop-holds : tie.Need-loop-holds Inv-loop μ-loop
 unfolding countTo sumTo
@@ -92,8 +92,8 @@ mul-numbers c = omega arith
 slice-write-numbers : tie.Need-slice-write-numbers Inv-loop μ-loop
 slice-write-numbers c = omega arith
 
-add-roots : tie.Need-add-roots Inv-loop μ-loop
-add-roots c = omega arith
+add-next : tie.Need-add-next Inv-loop μ-loop
+add-next c = omega arith
 
 mul-numbers-2 : tie.Need-mul-numbers-2 Inv-loop μ-loop
 mul-numbers-2 c =
@@ -126,8 +126,8 @@ loop-again c =
     let w = c .before .wide .result in
     let e : w ≡ parent room (l .loop .p) = c .before .wide .ensures in
     ⊎-elim
-    (λ a. rw (a .1, a .2) (at-root room falls old (l .loop .numbers) (l .loop .roots) (l .loop .p) (l .loop .inv) (omega arith) (sym e ∙ a .0 .taken)))
-    (λ b. rw (b .2, b .3) (rw e (at-child room falls old (l .loop .numbers) (l .loop .roots) (l .loop .p) (l .loop .inv) (omega arith) (λ q. b .0 .left (e ∙ q)))))
+    (λ a. rw (a .1, a .2) (at-root room falls old (l .loop .numbers) (l .loop .next) (l .loop .p) (l .loop .inv) (omega arith) (sym e ∙ a .0 .taken)))
+    (λ b. rw (b .2, b .3) (rw e (at-child room falls old (l .loop .numbers) (l .loop .next) (l .loop .p) (l .loop .inv) (omega arith) (λ q. b .0 .left (e ∙ q)))))
     (c .if1 .came)
 
 same-length : tie.Need-same-length Inv-loop μ-loop
@@ -153,7 +153,7 @@ number-spec =
     wide-requires
     mul-numbers
     slice-write-numbers
-    add-roots
+    add-next
     mul-numbers-2
     slice-read-numbers
     mul-numbers-3

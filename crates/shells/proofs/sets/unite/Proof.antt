@@ -17,15 +17,15 @@ Inv-loop room₀ triangles v count k₀ at₀ room k at = Uniting triangles room
 abbrev μ-loop : tie.MeasureT-loop
 μ-loop room₀ triangles v count k₀ at₀ room k at = triangleCount triangles - k
 
-part-requires : tie.Need-part-requires Inv-loop μ-loop
-part-requires c κs = c .before .before .before .pre .0
+alone-requires : tie.Need-alone-requires Inv-loop μ-loop
+alone-requires c κs = c .before .before .before .pre .0
 
 loop-holds : tie.Need-loop-holds Inv-loop μ-loop
 loop-holds c =
     let f = c .before .before in
     let g = f .before .before .before .before in
-    let e : length (f .part .last .0) ≡ length (g .args .room .now) = ap length (f .part .ensures) ∙ length-list (length (g .args .room .now)) (λ p. p) in
-    (uniting-none (g .args .triangles .now) (f .part .last .0) (f .part .last .0) (f .part .ensures ∙ ap (λ n. listTo n (λ p. p)) (sym e)), omega arith, omega arith)
+    let e : length (f .alone .last .0) ≡ length (g .args .room .now) = ap length (f .alone .ensures) ∙ length-list (length (g .args .room .now)) (λ p. p) in
+    (uniting-none (g .args .triangles .now) (f .alone .last .0) (f .alone .last .0) (f .alone .ensures ∙ ap (λ n. listTo n (λ p. p)) (sym e)), omega arith, omega arith)
 
 add-wide : tie.Need-add-wide Inv-loop μ-loop
 add-wide c = omega arith
@@ -55,7 +55,7 @@ join-requires c κs =
     let g = f .before .before .before .before in
     let ts = g .args .triangles .now in
     let in-mesh = corners-there ts (g .args .v) (l .loop .k) (l .loop .at) (g .pre .1 .1) (omega arith) (l .loop .inv .2) in
-    let e : length (f .part .last .0) ≡ length (g .args .room .now) = ap length (f .part .ensures) ∙ length-list (length (g .args .room .now)) (λ p. p) in
+    let e : length (f .alone .last .0) ≡ length (g .args .room .now) = ap length (f .alone .ensures) ∙ length-list (length (g .args .room .now)) (λ p. p) in
     (l .loop .inv .0 .falls, (omega (arith, l .loop .inv .0 .long, g .pre .0), (omega (arith, c .wide2 .ensures, in-mesh .first, l .loop .inv .0 .long, g .pre .1 .0), omega (arith, c .before .before .before .wide .ensures, in-mesh .second, l .loop .inv .0 .long, g .pre .1 .0))))
 
 add-wide-2 : tie.Need-add-wide-2 Inv-loop μ-loop
@@ -77,7 +77,7 @@ join-requires-2 c κs =
     let g = f .before .before .before .before in
     let ts = g .args .triangles .now in
     let in-mesh = corners-there ts (g .args .v) (l .loop .k) (l .loop .at) (g .pre .1 .1) (omega arith) (l .loop .inv .2) in
-    let e : length (f .part .last .0) ≡ length (g .args .room .now) = ap length (f .part .ensures) ∙ length-list (length (g .args .room .now)) (λ p. p) in
+    let e : length (f .alone .last .0) ≡ length (g .args .room .now) = ap length (f .alone .ensures) ∙ length-list (length (g .args .room .now)) (λ p. p) in
     let j = c .before .before .before .before .before in
     (j .join .ensures .falls, (omega (arith, j .join .ensures .long, l .loop .inv .0 .long, g .pre .0), (omega (arith, j .before .before .before .before .wide .ensures, in-mesh .second, j .join .ensures .long, l .loop .inv .0 .long, g .pre .1 .0), omega (arith, c .wide3 .ensures, in-mesh .third, j .join .ensures .long, l .loop .inv .0 .long, g .pre .1 .0))))
 
@@ -99,14 +99,14 @@ loop-again c =
     let ts = g .args .triangles .now in
     let m = c .before .before in
     let j = c .before .before .before .before .before .before .before .before in
-    (uniting-turn ts (f .part .last .0) (l .loop .room) (j .join .last .0) (m .join2 .last .0) (l .loop .k) (l .loop .at) _ _ _ turn (l .loop .inv .2) (j .before .wide2 .ensures) (j .before .before .before .before .wide .ensures) (m .before .wide3 .ensures) (l .loop .inv .0) (j .join .ensures) (m .join2 .ensures), omega (arith, turn), omega arith)
+    (uniting-turn ts (f .alone .last .0) (l .loop .room) (j .join .last .0) (m .join2 .last .0) (l .loop .k) (l .loop .at) _ _ _ turn (l .loop .inv .2) (j .before .wide2 .ensures) (j .before .before .before .before .wide .ensures) (m .before .wide3 .ensures) (l .loop .inv .0) (j .join .ensures) (m .join2 .ensures), omega (arith, turn), omega arith)
 
 same-length : tie.Need-same-length Inv-loop μ-loop
 same-length c =
     let l = c .before in
     let f = l .before .before .before in
     let g = f .before .before .before .before in
-    let e : length (f .part .last .0) ≡ length (g .args .room .now) = ap length (f .part .ensures) ∙ length-list (length (g .args .room .now)) (λ p. p) in
+    let e : length (f .alone .last .0) ≡ length (g .args .room .now) = ap length (f .alone .ensures) ∙ length-list (length (g .args .room .now)) (λ p. p) in
     l .loop .inv .0 .long ∙ e
 
 returns : tie.Need-returns Inv-loop μ-loop
@@ -115,8 +115,8 @@ returns c =
     let f = l .before .before .before in
     let g = f .before .before .before .before in
     let ts = g .args .triangles .now in
-    let e : length (f .part .last .0) ≡ length (g .args .room .now) = ap length (f .part .ensures) ∙ length-list (length (g .args .room .now)) (λ p. p) in
-    let u = united ts (f .part .last .0) (l .loop .room) (l .loop .k) (omega arith) (l .loop .inv .0) in
+    let e : length (f .alone .last .0) ≡ length (g .args .room .now) = ap length (f .alone .ensures) ∙ length-list (length (g .args .room .now)) (λ p. p) in
+    let u = united ts (f .alone .last .0) (l .loop .room) (l .loop .k) (omega arith) (l .loop .inv .0) in
     record { falls = u .falls; long = u .long ∙ e; together = u .together; sound = u .sound }
 
 pub unite-spec : {M : Type 1} → statement M
@@ -125,7 +125,7 @@ unite-spec =
     (tie.spec
     Inv-loop
     μ-loop
-    part-requires
+    alone-requires
     loop-holds
     add-wide
     mul-wide

@@ -1,4 +1,4 @@
--- `shells::sets::part` meets its contract: the points so far, each at its own place, then the room as it was. Assumes nothing.
+-- `shells::sets::alone` meets its contract: the points so far, each at its own place, then the room as it was. Assumes nothing.
 use mathlib.Core.Path.{_≡_, refl, ap, sym, _∙_}
 use Prim.Native.Nat.{_-_, _≤_}
 use native.Mathlib.Omega.{arith}
@@ -6,8 +6,8 @@ use lib.ListN.{length, set, length-set}
 use Rattle.laws.specs.Room.{laid}
 use Rattle.laws.specs.Values.{listTo}
 use Rattle.laws.proofs.Values.{laid-none, laid-more, laid-all}
-use Rattle.shells.proofs.sets.part.Statement.{statement}
-use Rattle.shells.proofs.sets.part.Tie as tie
+use Rattle.shells.proofs.sets.alone.Statement.{statement}
+use Rattle.shells.proofs.sets.alone.Tie as tie
 
 abbrev Inv-loop : tie.InvT-loop
 Inv-loop room₀ p₀ room p = (length room ≡ length room₀) × (p ≤ length room₀) × (room ≡ laid (listTo p (λ q. q)) room₀)
@@ -49,8 +49,8 @@ returns c =
     let end : l .p ≡ length room = omega arith in
     l .inv .2 ∙ laid-all (l .p) (λ q. q) room end ∙ ap (λ k. listTo k (λ q. q)) end
 
-pub part-spec : {M : Type 1} → statement M
-part-spec =
+pub alone-spec : {M : Type 1} → statement M
+alone-spec =
     tie.close
     (tie.spec
     Inv-loop
