@@ -14,7 +14,7 @@ pub mod Totals
 pub mod Lows
 pub mod Figures
 -- How large volumes are; records that grow become those of the shells; how the call ends.
-pub mod Volume
+pub mod Sizes
 pub mod Making
 pub mod Made
 pub mod Ending

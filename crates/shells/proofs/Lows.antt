@@ -15,6 +15,9 @@ use Rattle.shells.specs.Numbering.{numberOf, Lowest, Used, Numbering}
 use Rattle.shells.specs.Record.{pointsUnder, recordFrom, recordOf}
 
 module _ (points triangles marks found : List ℕ) (shells : ℕ) (N : Numbering (trianglesIn triangles) (length marks) found shells) where
+  abbrev has : ℕ → ℕ → Bool
+  has n p = eqb (numberOf found p) n
+
   abbrev low : ℕ → ℕ
   low n = recordOf points triangles marks found n .low
 
@@ -27,19 +30,19 @@ module _ (points triangles marks found : List ℕ) (shells : ℕ) (N : Numbering
   unfolding recordFrom pointsUnder
   by-lowest n l = record { small = r .small; number = number; lowest = lowest }
     where
-      has : ℕ → Bool
-      has p = eqb (numberOf found p) n
-      r : Ranked (length marks) 0 (λ p. eqb (numberOf found p) n) (getD (keepTo (length marks) (λ p. eqb (numberOf found p) n)) 0 0)
+      r : Ranked (length marks) 0 (has n) (getD (keepTo (length marks) (has n)) 0 0)
       r =
           let u = N .used n l in
-          kept-at (length marks) 0 (λ p. eqb (numberOf found p) n) (omega (arith, rank-lt (length marks) (u .point) (λ p. eqb (numberOf found p) n) (u .small) (eq-eqb _ _ (u .number))))
-      number : numberOf found (getD (keepTo (length marks) (λ p. eqb (numberOf found p) n)) 0 0) ≡ n
+          kept-at (length marks) 0 (has n) (omega (arith, rank-lt (length marks) (u .point) (has n) (u .small) (eq-eqb _ _ (u .number))))
+
+      number : numberOf found (getD (keepTo (length marks) (has n)) 0 0) ≡ n
       number = eqb-true _ _ (r .passes)
-      lowest : Lowest (length marks) found (getD (keepTo (length marks) (λ p. eqb (numberOf found p) n)) 0 0)
-      lowest q lq e = go (decLt q (getD (keepTo (length marks) (λ p. eqb (numberOf found p) n)) 0 0))
+
+      lowest : Lowest (length marks) found (getD (keepTo (length marks) (has n)) 0 0)
+      lowest q lq e = go (decLt q (getD (keepTo (length marks) (has n)) 0 0))
         where
-          go : Dec (q < getD (keepTo (length marks) (λ p. eqb (numberOf found p) n)) 0 0) → getD (keepTo (length marks) (λ p. eqb (numberOf found p) n)) 0 0 ≤ q
-          go (yes k) = absurd (omega (arith, r .rank, rank-lt _ q (λ p. eqb (numberOf found p) n) k (eq-eqb _ _ (e ∙ number))))
+          go : Dec (q < getD (keepTo (length marks) (has n)) 0 0) → getD (keepTo (length marks) (has n)) 0 0 ≤ q
+          go (yes k) = absurd (omega (arith, r .rank, rank-lt _ q (has n) k (eq-eqb _ _ (e ∙ number))))
           go (no ge) = omega arith
 
   pub lows-rise : (n m : ℕ) → n < m → m < shells → low n < low m
@@ -47,8 +50,10 @@ module _ (points triangles marks found : List ℕ) (shells : ℕ) (N : Numbering
     where
       a : ByLowest n
       a = by-lowest n (omega arith)
+
       b : ByLowest m
       b = by-lowest m lm
+
       go : Dec (low n < low m) → Dec (low m < low n) → low n < low m
       go (yes k) d = k
       go (no x) (yes k) = absurd (omega (arith, N .rising (low m) (low n) (b .small) (a .small) (b .lowest) (a .lowest) k, a .number, b .number))

@@ -20,7 +20,7 @@ use Rattle.mesh.specs.Check.{allWithin}
 use Rattle.shells.specs.Record.{anyOf, placeOf, diagonals, determinant, sixfold, recordFrom}
 use Rattle.shells.specs.Grown.{none, withPoint, withTriangle, PointFits, TriangleFits, Near, mostProduct}
 use Rattle.shells.proofs.Sound.{within-any}
-use Rattle.shells.proofs.Volume.{diagonals-small}
+use Rattle.shells.proofs.Sizes.{diagonals-small}
 
 -- ---- one point, one triangle more
 any-append : {A : Type 0} (p : A → Bool) (xs : List A) (x : A) → anyOf p (xs ++ (x ∷ [])) ≡ (anyOf p xs || p x)

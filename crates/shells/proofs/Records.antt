@@ -1,7 +1,7 @@
 -- `Slices.antt` at the struct `Shell`: its element, and the names at it that a walk writes often.
 --     E, R, ty         the element; its row; the MIR type of a local that holds a record.        EL, RL, tyL     the same of the answer `Listed`
 --     mach, vals       a record's machine value.        typed, makes-it, tells, same, is-of     its laws: the value has the MIR type; what a record owns is had for nothing; a value that the row relates to a record is the record's
---     Mut, Shr, ref    as `Slices.antt` has them
+--     Mut              as `Slices.antt` has it
 -- No line here names a field. Assumes nothing.
 use mathlib.Core.Path.{_≡_, ap, subst}
 use Prim.Native.Nat.{ℕ}
@@ -16,7 +16,6 @@ use ghost.Atoms.{Atoms}
 use types.Kit.{Given}
 use denote.RattleType.{RattleType}
 use denote.Laws.{Is, Makes}
-use denote.Ref.{RefT}
 use denote.Steps.{only}
 use Rattle.shells.specs.declared.Shell.{Shell}
 use Rattle.shells.specs.Grown.{none}
@@ -28,10 +27,10 @@ use Rattle.shells.proofs.Slices as S
 use Rattle.shells.proofs.Slices.{Elem, struct-elem}
 
 abbrev pub E : Elem
-E = struct-elem T.the-type T′.the-laws T′.the-plain T′.the-copy none
+E = struct-elem T.the-type T′.the-laws T′.the-plain none
 
 abbrev pub EL : Elem
-EL = struct-elem L.the-type L′.the-laws L′.the-plain L′.the-copy (record { number = 0; shells = 0 })
+EL = struct-elem L.the-type L′.the-laws L′.the-plain (record { number = 0; shells = 0 })
 
 abbrev pub RL : RattleType
 RL = L.the-row
@@ -66,11 +65,5 @@ same h v is = ap only (tells h (v ∷ []) is)
 pub is-of : (h : Shell) (v : Val) → Is R h (v ∷ []) → Is R h (vals h)
 is-of h v is = subst (Is R h) (tells h (v ∷ []) is) is
 
-abbrev pub ref : ℕ → ℕ → GName → List Shell → RefT (List Shell)
-ref b o γ l = S.ref E b o γ l
-
 abbrev pub Mut : Lft → GName → ℕ → ℕ → ℕ → List Shell → Fml
 Mut κ γ b o m l = S.Mut E κ γ b o m l
-
-abbrev pub Shr : Lft → GName → ℕ → ℕ → ℕ → List Shell → Fml
-Shr κ γ b o m l = S.Shr E κ γ b o m l

@@ -11,7 +11,7 @@ use mir.Val.{SFits}
 use Rattle.grid.specs.Limits.{mostPoints, mostCoordinate}
 use Rattle.mesh.specs.Mesh.{triangleCount, triangleAt}
 use Rattle.mesh.specs.Check.{trianglesFit, allWithin}
-use Rattle.shells.specs.declared.Place.{Place}
+use Rattle.shells.specs.declared.volume.Place.{Place}
 use Rattle.shells.specs.declared.Shell.{Shell}
 use Rattle.shells.specs.Numbering.{numberOf}
 use Rattle.shells.specs.Record.{sixfold}

@@ -9,7 +9,7 @@ use Rattle.laws.specs.Range.{keepTo, one-if}
 use Rattle.laws.specs.Signed.{sumOfℤ}
 use Rattle.laws.specs.Mesh.{Triangle}
 use Rattle.mesh.specs.Mesh.{triangleCount, triangleAt}
-use Rattle.shells.specs.declared.Place.{Place}
+use Rattle.shells.specs.declared.volume.Place.{Place}
 use Rattle.shells.specs.declared.Shell.{Shell}
 use Rattle.shells.specs.Numbering.{numberOf}
 

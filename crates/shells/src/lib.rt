@@ -2,19 +2,18 @@
 ghost use mathlib.Core.Path.{_≡_};
 ghost use mathlib.Core.Bool.{true, cond};
 ghost use lib.Dec.{eqb};
-ghost use Prim.Native.Nat.{_+_, _*_, _<_, _≤_};
+ghost use Prim.Native.Nat.{_<_, _≤_};
 ghost use lib.ListN.{length, getD, set, replicate};
-ghost use mir.Syntax.{w64};
-ghost use mir.Val.{SFits};
-ghost use Rattle.grid.specs.Limits.{mostPoints, mostCoordinate, mostTriangles};
+ghost use Rattle.grid.specs.Limits.{mostPoints};
 ghost use Rattle.mesh.specs.Mesh.{triangleCount, triangleAt};
-ghost use Rattle.mesh.specs.Check.{trianglesFit, allWithin};
+ghost use Rattle.mesh.specs.Check.{trianglesFit};
 ghost use Rattle.shells.specs.Numbering.{numberOf};
-ghost use Rattle.shells.specs.Record.{placeOf, diagonals as diagonalsOf, sixfold as sixfoldOf};
+ghost use Rattle.shells.specs.Record.{sixfold as sixfoldOf};
 ghost use Rattle.shells.specs.Promise.{left, refusal, Lists, Shells};
-ghost use Rattle.shells.specs.Grown.{none, withPoint, withTriangle, PointFits, TriangleFits, MeshFits, Near, mostProduct, PointTurn, PointsFit, TriangleTurn, TrianglesFit, changed, emptied, pointsAdded, trianglesAdded, filled, FillFits};
+ghost use Rattle.shells.specs.Grown.{none, withPoint, withTriangle, PointFits, TriangleFits, MeshFits, PointTurn, PointsFit, TriangleTurn, TrianglesFit, changed, emptied, pointsAdded, trianglesAdded, filled, FillFits};
 
 mod sets;
+mod volume;
 
 #[repr(C)]
 pub struct Shell {
@@ -23,13 +22,6 @@ pub struct Shell {
     pub triangles: u32,
     pub touches: u32,
     pub volume: i64,
-}
-
-// Where a point stands.
-struct Place {
-    x: u64,
-    y: u64,
-    z: u64,
 }
 
 // Number 0 and the count of shells if granted, else the refusal's number and count 0.
@@ -62,7 +54,10 @@ fn crowded(work: &mut [u32]) -> Listed
     ensures { λ r. ⌜ (r ≡ record { number = 11; shells = 0 }) × (now (work .exit) ≡ replicate (length (now (work .entry))) 0) ⌝ }
 {
     rooms::clear(work);
-    Listed { number: 11, shells: 0 }
+    Listed {
+        number: 11,
+        shells: 0,
+    }
 }
 
 // The shell number of each point, where so many records are lent: all of the call but the records.
@@ -141,65 +136,12 @@ fn with_point(s: Shell, marks: &[u8], i: usize) -> Shell
     }
 }
 
-// Where point p stands.
-fn place_of(points: &[u32], p: usize) -> Place
-    requires { ⌜ 3 * p + 2 < length (now points) ⌝ }
-    requires { ⌜ allWithin mostCoordinate (now points) ≡ true ⌝ }
-    ensures { λ r. ⌜ r ≡ placeOf (now (points .entry)) p ⌝ }
-    ensures { λ r. ⌜ Near r ⌝ }
-{
-    let at = 3 * p;
-    Place {
-        x: long(points[at]),
-        y: long(points[at + 1]),
-        z: long(points[at + 2]),
-    }
-}
-
-fn long(x: u32) -> u64
-    ensures { λ r. ⌜ r ≡ x ⌝ }
-{
-    x as u64
-}
-
-// The product of three coordinates.
-fn product(a: u64, b: u64, c: u64) -> u64
-    requires { ⌜ (a ≤ mostCoordinate) × (b ≤ mostCoordinate) × (c ≤ mostCoordinate) ⌝ }
-    ensures { λ r. ⌜ (r ≡ a * b * c) × (r ≤ mostProduct) ⌝ }
-{
-    a * b * c
-}
-
-// Three points as rows: the products along the three diagonals that go down to the right.
-fn diagonals(a: Place, b: Place, c: Place) -> u64
-    requires { ⌜ Near a ⌝ }
-    requires { ⌜ Near b ⌝ }
-    requires { ⌜ Near c ⌝ }
-    ensures { λ r. ⌜ r ≡ diagonalsOf a b c ⌝ }
-{
-    product(a.x, b.y, c.z) + product(a.y, b.z, c.x) + product(a.z, b.x, c.y)
-}
-
-// The determinant of triangle k's three points as rows.
-fn sixfold(points: &[u32], triangles: &[u32], k: usize) -> i64
-    requires { ⌜ MeshFits (now points) (now triangles) ⌝ }
-    requires { ⌜ k < triangleCount (now triangles) ⌝ }
-    ensures { λ r. ⌜ r ≡ sixfoldOf (now (points .entry)) (triangleAt (now (triangles .entry)) k) ⌝ }
-    ensures { λ r. ⌜ SFits w64 r ⌝ }
-{
-    let at = 3 * k;
-    let a = place_of(points, sets::wide(triangles[at]));
-    let b = place_of(points, sets::wide(triangles[at + 1]));
-    let c = place_of(points, sets::wide(triangles[at + 2]));
-    laws::signed::excess(diagonals(a, b, c), diagonals(c, b, a))
-}
-
 // One triangle more, by value.
 fn with_triangle(s: Shell, points: &[u32], triangles: &[u32], k: usize) -> Shell
     requires { ⌜ TriangleFits (sixfoldOf (now points) (triangleAt (now triangles) k)) s × MeshFits (now points) (now triangles) × (k < triangleCount (now triangles)) ⌝ }
     ensures { λ r. ⌜ r ≡ withTriangle (sixfoldOf (now (points .entry)) (triangleAt (now (triangles .entry)) k)) s ⌝ }
 {
-    let volume = laws::signed::sum(s.volume, sixfold(points, triangles, k));
+    let volume = laws::signed::sum(s.volume, volume::sixfold(points, triangles, k));
     Shell {
         low: s.low,
         points: s.points,

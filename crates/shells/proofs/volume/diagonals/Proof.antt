@@ -1,8 +1,8 @@
--- `shells::diagonals` meets its contract: three products. Assumes nothing.
+-- `shells::volume::diagonals` meets its contract: three products. Assumes nothing.
 use Rattle.shells.specs.Record.{diagonals}
 use borrow.Author.Needs.{needs}
-use Rattle.shells.proofs.diagonals.Statement.{statement}
-use Rattle.shells.proofs.diagonals.Tie as tie
+use Rattle.shells.proofs.volume.diagonals.Statement.{statement}
+use Rattle.shells.proofs.volume.diagonals.Tie as tie
 
 product-requires : tie.Need-product-requires
 product-requires c κs = search needs

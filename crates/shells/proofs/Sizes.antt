@@ -3,7 +3,7 @@ use Prim.Native.Nat.{ℕ, _*_, _≤_}
 use native.Mathlib.Nat.{mul-le-mul}
 use native.Mathlib.Omega.{arith}
 use Rattle.grid.specs.Limits.{mostCoordinate}
-use Rattle.shells.specs.declared.Place.{Place}
+use Rattle.shells.specs.declared.volume.Place.{Place}
 use Rattle.shells.specs.Record.{diagonals}
 use Rattle.shells.specs.Grown.{Near, mostProduct}
 

@@ -1,4 +1,4 @@
--- `shells::sixfold` meets its contract: the places of three corners, and the determinant of them as rows. Assumes nothing.
+-- `shells::volume::sixfold` meets its contract: the places of three corners, and the determinant of them as rows. Assumes nothing.
 use mathlib.Core.Path.{_≡_, _∙_, subst, sym}
 use mathlib.Core.List.{List}
 use Prim.Native.Nat.{ℕ, _/_, _<_, _^_}
@@ -10,14 +10,14 @@ use mir.Val.{SFits}
 use mir.Facts.{toZ-ofZ}
 use Rattle.laws.proofs.Differences.{difference-fits}
 use Rattle.laws.specs.Mesh.{triangle}
-use Rattle.shells.specs.declared.Place.{Place}
+use Rattle.shells.specs.declared.volume.Place.{Place}
 use Rattle.shells.specs.Record.{placeOf, diagonals, determinant, sixfold}
 use Rattle.shells.specs.Grown.{Near}
 use Rattle.shells.proofs.Sound.{corners}
-use Rattle.shells.proofs.Volume.{diagonals-small}
+use Rattle.shells.proofs.Sizes.{diagonals-small}
 use borrow.Author.Needs.{needs}
-use Rattle.shells.proofs.sixfold.Statement.{statement}
-use Rattle.shells.proofs.sixfold.Tie as tie
+use Rattle.shells.proofs.volume.sixfold.Statement.{statement}
+use Rattle.shells.proofs.volume.sixfold.Tie as tie
 
 -- three places near enough
 small : (r : ℕ) (a b c : Place) → Near a → Near b → Near c → r ≡ diagonals a b c → r < 2 ^ 63

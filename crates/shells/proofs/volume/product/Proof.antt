@@ -1,9 +1,9 @@
--- `shells::product` meets its contract: three coordinates within the limit. Assumes nothing.
+-- `shells::volume::product` meets its contract: three coordinates within the limit. Assumes nothing.
 use mathlib.Core.Path.{refl}
 use native.Mathlib.Omega.{arith}
-use Rattle.shells.proofs.Volume.{pair-small, product-small}
-use Rattle.shells.proofs.product.Statement.{statement}
-use Rattle.shells.proofs.product.Tie as tie
+use Rattle.shells.proofs.Sizes.{pair-small, product-small}
+use Rattle.shells.proofs.volume.product.Statement.{statement}
+use Rattle.shells.proofs.volume.product.Tie as tie
 
 mul-result : tie.Need-mul-result
 mul-result c = omega (arith, pair-small (c .args .a) (c .args .b) (c .pre .0) (c .pre .1))

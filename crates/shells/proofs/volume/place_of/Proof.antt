@@ -1,4 +1,4 @@
--- `shells::place_of` meets its contract: three coordinates, each within the limit. Assumes nothing.
+-- `shells::volume::place_of` meets its contract: three coordinates, each within the limit. Assumes nothing.
 use mathlib.Core.Path.{_≡_, subst, sym}
 use mathlib.Core.List.{List}
 use mathlib.Core.Bool.{true}
@@ -7,13 +7,13 @@ use native.Mathlib.Omega.{arith}
 use lib.ListN.{length}
 use Rattle.grid.specs.Limits.{mostCoordinate}
 use Rattle.mesh.specs.Check.{allWithin}
-use Rattle.shells.specs.declared.Place.{Place}
+use Rattle.shells.specs.declared.volume.Place.{Place}
 use Rattle.shells.specs.Record.{placeOf}
 use Rattle.shells.specs.Grown.{Near}
 use Rattle.shells.proofs.Sound.{within}
 use borrow.Author.Needs.{needs}
-use Rattle.shells.proofs.place_of.Statement.{statement}
-use Rattle.shells.proofs.place_of.Tie as tie
+use Rattle.shells.proofs.volume.place_of.Statement.{statement}
+use Rattle.shells.proofs.volume.place_of.Tie as tie
 
 near : (points : List ℕ) (p : ℕ) → 3 * p + 2 < length points → allWithin mostCoordinate points ≡ true → Near (placeOf points p)
 near points p l h =
