@@ -34,17 +34,21 @@ refusal points triangles marks numbers work =
     cond (not (eqb mesh 0)) mesh (cond (not (roomsFit (length marks) numbers work)) 3 0)
 
 module _ (points triangles marks : List ℕ) where
+  -- the refusal that these rooms meet
+  abbrev pub early : List ℕ → List ℕ → ℕ
+  early numbers work = refusal points triangles marks (length numbers) (length work)
+
   -- what may be left in the rooms of numbers, where so many records are lent
   pub data Lists (records : ℕ) (numbers work : List ℕ) (o : Outcome) : Type 0 where
     -- 6, 7, 8, 9 and 3 leave all rooms
-    refused : (refusal points triangles marks (length numbers) (length work) ≡ 0 → ⊥)
-        → o ≡ left (refusal points triangles marks (length numbers) (length work)) 0 numbers work → Lists records numbers work o
+    refused : (early numbers work ≡ 0 → ⊥)
+        → o ≡ left (early numbers work) 0 numbers work → Lists records numbers work o
     -- 11: there are more shells than records; the work room is made zero
-    crowded : refusal points triangles marks (length numbers) (length work) ≡ 0 → (found : List ℕ) (shells : ℕ)
+    crowded : early numbers work ≡ 0 → (found : List ℕ) (shells : ℕ)
         → Numbering (trianglesIn triangles) (length marks) found shells → records < shells
         → o ≡ left 11 0 numbers (replicate (length work) 0) → Lists records numbers work o
     -- granted: the shell numbers of all points; the work room is made zero
-    granted : refusal points triangles marks (length numbers) (length work) ≡ 0 → (found : List ℕ) (shells : ℕ)
+    granted : early numbers work ≡ 0 → (found : List ℕ) (shells : ℕ)
         → Numbering (trianglesIn triangles) (length marks) found shells → shells ≤ records
         → o ≡ left 0 shells found (replicate (length work) 0) → Lists records numbers work o
 
