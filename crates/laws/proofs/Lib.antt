@@ -3,6 +3,7 @@ pub mod Tests
 pub mod Ranges
 pub mod Box
 pub mod Keep
+pub mod Parted
 pub mod Rows
 pub mod Sums
 pub mod Lists
@@ -13,6 +14,8 @@ pub mod Halves
 pub mod Words
 pub mod Scan
 pub mod Nearest
+pub mod Differences
 pub mod Rooms
 pub mod Writes
+pub mod Values
 pub mod Sides

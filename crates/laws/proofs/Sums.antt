@@ -1,7 +1,8 @@
 -- Sums and properties over a list: joined, mapped, and of equal worth.
 use mathlib.Core.Path.{_≡_, refl, _∙_}
 use mathlib.Core.List.{List, [], _∷_, _++_, map, flatMap, List·Memᴰ, List·Memᴰ·head, List·Memᴰ·tail}
-use Prim.Native.Nat.{ℕ, _+_}
+use Prim.Native.Nat.{ℕ, _+_, _*_, _≤_}
+use native.Mathlib.Nat.{zero-mul, suc-mul}
 use native.Mathlib.Omega.{arith}
 use lib.ListN.{length}
 use Rattle.laws.specs.Sum.{sumOf, All}
@@ -51,3 +52,9 @@ pub sum-ones : {A : Type 0} (xs : List A) → sumOf (λ a. 1) xs ≡ length xs
 unfolding sumOf
 sum-ones [] = refl
 sum-ones (x ∷ xs) = omega (arith, sum-ones xs)
+
+-- a sum of numbers that are at most m each
+pub sum-bounded : {A : Type 0} (m : ℕ) (g : A → ℕ) → ((x : A) → g x ≤ m) → (xs : List A) → sumOf g xs ≤ length xs * m
+unfolding sumOf
+sum-bounded m g h [] = omega (arith, zero-mul m)
+sum-bounded m g h (x ∷ xs) = omega (arith, h x, sum-bounded m g h xs, suc-mul (length xs) m)

@@ -1,6 +1,7 @@
 -- A test over a whole range, a whole list or all rows of Booleans, closed by one computation, put to use at one entry.
 use mathlib.Core.Path.{_≡_, refl, sym}
-use mathlib.Core.Bool.{Bool, true, false, _&&_, and-eq-true-iff, and-false}
+use mathlib.Core.Bool.{Bool, true, false, _&&_, and-eq-true-iff, and-false, _||_}
+use mathlib.Core.Logic.{_⊎_, inl, inr}
 use mathlib.Core.List.{List, [], _∷_}
 use Prim.Native.Nat.{ℕ, zero, suc, _+_, _<_}
 use native.Mathlib.Decide.{decLt}
@@ -82,3 +83,8 @@ pub all-holds : (n : ℕ) (p : ℕ → Bool) → ((k : ℕ) → k < n → p k �
 unfolding allTo
 all-holds zero p h = refl
 all-holds (suc n) p h = rw (h n (omega arith)) (all-holds n p (λ k l. h k (omega arith)))
+
+-- one of two tests passed
+pub either : (a b : Bool) → (a || b) ≡ true → (a ≡ true) ⊎ (b ≡ true)
+either true b h = inl refl
+either false b h = inr h

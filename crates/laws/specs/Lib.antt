@@ -1,10 +1,12 @@
 -- Words that belong to no one part of the library. Reading order: sums, joins, counts and tests over a range; the same over a list; lists in
 -- another order; bits of a number; division to the nearest; a list in the front of a room; numbers in threes; triangles and their sides.
 pub mod Range
+pub mod Values
 pub mod Sum
 pub mod Order
 pub mod Bits
 pub mod Nearest
+pub mod Signed
 pub mod Room
 pub mod Threes
 pub mod Mesh

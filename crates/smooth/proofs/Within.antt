@@ -4,7 +4,6 @@ use mathlib.Core.List.{List, [], _∷_, _++_}
 use mathlib.Core.Bool.{Bool, true, false, cond, _&&_}
 use Prim.Native.Nat.{ℕ, zero, suc, _+_, _*_, _-_, _<_, _≤_}
 use native.Mathlib.Decide.{decLt}
-use native.Mathlib.Nat.{mul-comm}
 use native.Mathlib.Omega.{arith}
 use lib.Dec.{eqb, leb}
 use lib.ListN.{length, getD, List·getD-append}
@@ -13,6 +12,7 @@ use borrow.Author.Tests.{le-leb, leb-true}
 use Rattle.laws.specs.Sum.{sumOf}
 use Rattle.laws.specs.Mesh.{Triangle}
 use Rattle.laws.proofs.Tests.{both, all-holds}
+use Rattle.laws.proofs.Sums.{sum-bounded}
 use Rattle.laws.proofs.Ranges.{of-join}
 use Rattle.laws.proofs.Rows.{length-rows}
 use Rattle.grid.specs.Limits.{mostWeight, mostCoordinate}
@@ -33,12 +33,6 @@ small-append xs ys a b i = go (decLt i (length xs))
         let is : i ≡ length xs + (i - length xs) = omega arith in
         rw (is, getD-append-add xs ys (i - length xs) 0) (b (i - length xs))
 
--- a sum over a list of small terms
-sum-small : (f : ℕ → ℕ) (most : ℕ) → ((q : ℕ) → f q ≤ most) → (xs : List ℕ) → sumOf f xs ≤ length xs * most
-unfolding sumOf
-sum-small f most h [] = omega arith
-sum-small f most h (x ∷ xs) = omega (arith, h x, sum-small f most h xs, mul-comm (suc (length xs)) most, mul-comm (length xs) most)
-
 moved-if-small : (mark w d p s : ℕ) → w ≤ mostWeight → p ≤ mostCoordinate → s ≤ d * mostCoordinate → movedIf mark w d p s ≤ mostCoordinate
 unfolding movedIf
 moved-if-small mark w d p s lw lp ls = go (eqb mark 0 && leb 1 d) refl
@@ -57,7 +51,7 @@ module _ (ts : List Triangle) (marks : List ℕ) (w : ℕ) (lw : w ≤ mostWeigh
       one p a =
           let ns = neighbours (length marks) ts p in
           moved-if-small (getD marks p 0) w (length ns) (coordinateOf old p a) (sumOf (λ q. coordinateOf old q a) ns) lw (small (3 * p + a))
-          (sum-small (λ q. coordinateOf old q a) mostCoordinate (λ q. small (3 * q + a)) ns)
+          (sum-bounded mostCoordinate (λ q. coordinateOf old q a) (λ q. small (3 * q + a)) ns)
 
       three : (p i : ℕ) → getD (let new = movedFrom (getD marks p 0) w old p (neighbours (length marks) ts p) in new 0 ∷ new 1 ∷ new 2 ∷ []) i 0 ≤ mostCoordinate
       three p zero = one p 0

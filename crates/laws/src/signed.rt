@@ -1,0 +1,23 @@
+// Signed whole numbers: each operation with the exact result, where it fits.
+ghost use mathlib.Core.Path.{_≡_};
+ghost use Prim.Native.Nat.{_<_, _^_};
+ghost use lib.IntN.{pos, _+ℤ_, _-ℤ_};
+ghost use mir.Syntax.{w64};
+ghost use mir.Val.{SFits};
+
+// The sum of two numbers.
+pub fn sum(a: i64, b: i64) -> i64
+    requires { ⌜ SFits w64 (a +ℤ b) ⌝ }
+    ensures { λ r. ⌜ r ≡ a +ℤ b ⌝ }
+{
+    a + b
+}
+
+// How much one number exceeds another: below 0 where it does not.
+pub fn excess(a: u64, b: u64) -> i64
+    requires { ⌜ a < 2 ^ 63 ⌝ }
+    requires { ⌜ b < 2 ^ 63 ⌝ }
+    ensures { λ r. ⌜ r ≡ pos a -ℤ pos b ⌝ }
+{
+    (a as i64) - (b as i64)
+}

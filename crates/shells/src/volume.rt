@@ -1,0 +1,73 @@
+// The determinant of a triangle's three points as rows: six times the volume between the triangle and the origin.
+ghost use mathlib.Core.Path.{_≡_};
+ghost use mathlib.Core.Bool.{true};
+ghost use Prim.Native.Nat.{_+_, _*_, _<_, _≤_};
+ghost use lib.ListN.{length};
+ghost use mir.Syntax.{w64};
+ghost use mir.Val.{SFits};
+ghost use Rattle.grid.specs.Limits.{mostCoordinate};
+ghost use Rattle.mesh.specs.Mesh.{triangleCount, triangleAt};
+ghost use Rattle.mesh.specs.Check.{allWithin};
+ghost use Rattle.shells.specs.Record.{placeOf, diagonals as diagonalsOf, sixfold as sixfoldOf};
+ghost use Rattle.shells.specs.Grown.{MeshFits, Near, mostProduct};
+use crate::sets::wide;
+
+// Where a point stands.
+struct Place {
+    x: u64,
+    y: u64,
+    z: u64,
+}
+
+// Where point p stands.
+fn place_of(points: &[u32], p: usize) -> Place
+    requires { ⌜ 3 * p + 2 < length (now points) ⌝ }
+    requires { ⌜ allWithin mostCoordinate (now points) ≡ true ⌝ }
+    ensures { λ r. ⌜ r ≡ placeOf (now (points .entry)) p ⌝ }
+    ensures { λ r. ⌜ Near r ⌝ }
+{
+    let at = 3 * p;
+    Place {
+        x: long(points[at]),
+        y: long(points[at + 1]),
+        z: long(points[at + 2]),
+    }
+}
+
+fn long(x: u32) -> u64
+    ensures { λ r. ⌜ r ≡ x ⌝ }
+{
+    x as u64
+}
+
+// The product of three coordinates.
+fn product(a: u64, b: u64, c: u64) -> u64
+    requires { ⌜ (a ≤ mostCoordinate) × (b ≤ mostCoordinate) × (c ≤ mostCoordinate) ⌝ }
+    ensures { λ r. ⌜ (r ≡ a * b * c) × (r ≤ mostProduct) ⌝ }
+{
+    a * b * c
+}
+
+// Three points as rows: the products along the three diagonals that go down to the right.
+fn diagonals(a: Place, b: Place, c: Place) -> u64
+    requires { ⌜ Near a ⌝ }
+    requires { ⌜ Near b ⌝ }
+    requires { ⌜ Near c ⌝ }
+    ensures { λ r. ⌜ r ≡ diagonalsOf a b c ⌝ }
+{
+    product(a.x, b.y, c.z) + product(a.y, b.z, c.x) + product(a.z, b.x, c.y)
+}
+
+// The determinant of triangle k's three points as rows.
+pub fn sixfold(points: &[u32], triangles: &[u32], k: usize) -> i64
+    requires { ⌜ MeshFits (now points) (now triangles) ⌝ }
+    requires { ⌜ k < triangleCount (now triangles) ⌝ }
+    ensures { λ r. ⌜ r ≡ sixfoldOf (now (points .entry)) (triangleAt (now (triangles .entry)) k) ⌝ }
+    ensures { λ r. ⌜ SFits w64 r ⌝ }
+{
+    let at = 3 * k;
+    let a = place_of(points, wide(triangles[at]));
+    let b = place_of(points, wide(triangles[at + 1]));
+    let c = place_of(points, wide(triangles[at + 2]));
+    laws::signed::excess(diagonals(a, b, c), diagonals(c, b, a))
+}
