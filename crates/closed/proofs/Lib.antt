@@ -13,5 +13,6 @@ pub mod Promised
 pub mod Passes
 pub mod Smoothing
 pub mod Shell
+pub mod Listed
 pub mod Fourfold
 pub mod Slit

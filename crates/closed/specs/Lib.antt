@@ -4,5 +4,6 @@
 pub mod Runs
 pub mod Left
 pub mod Shell
+pub mod Listed
 pub mod Fourfold
 pub mod Pattern

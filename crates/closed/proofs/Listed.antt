@@ -1,0 +1,160 @@
+-- A granted shell list is right, and a shell in it that touches no outer face is closed, if the mesh was extracted here, smoothed here or not.
+use mathlib.Core.Path.{_≡_, refl, ap, sym, _∙_}
+use mathlib.Core.List.{List, [], _∷_, _++_}
+use mathlib.Core.Bool.{Bool, true, false, cond, _||_, true≢false}
+use Prim.Native.Nat.{ℕ, zero, suc, _<_, _≤_}
+use native.Mathlib.Decide.{decLt}
+use native.Mathlib.Omega.{arith}
+use lib.Dec.{eqb}
+use lib.ListN.{length, getD, List·getD-eq-default}
+use borrow.Author.Tests.{eq-eqb, eqb-false}
+use Rattle.laws.specs.Range.{keepTo, countTo, one-if}
+use Rattle.laws.specs.Room.{laid}
+use Rattle.laws.specs.Mesh.{Triangle, sides}
+use Rattle.laws.specs.Values.{listTo}
+use Rattle.laws.proofs.Ranges.{of-join}
+use Rattle.laws.proofs.Keep.{rank-lt, at-rank, length-keep}
+use Rattle.laws.proofs.Sums.{all-append}
+use Rattle.laws.proofs.Sides.{sides-append}
+use Rattle.laws.proofs.Values.{laid-at}
+use Rattle.mesh.specs.Mesh.{triangleCount, triangleAt, trianglesOf}
+use Rattle.mesh.specs.Check.{trianglesFit, allWithin}
+use Rattle.extract.specs.Outcome.{Rooms, Outcome as Extracted}
+use Rattle.extract.specs.Promise.{Extracts}
+use Rattle.shells.specs.declared.Shell.{Shell}
+use Rattle.shells.specs.Numbering.{numberOf, Numbering}
+use Rattle.shells.specs.Record.{anyOf, pointsUnder, recordFrom, recordOf}
+use Rattle.shells.specs.Promise.{Outcome, Lists, refused, crowded, granted, recordsAfter, Shells}
+use Rattle.shells.proofs.Sound.{passed, corners, within-any}
+use Rattle.shells.proofs.Leading.{led-first, led-second}
+use Rattle.shells.proofs.Lows.{by-lowest, lows-rise}
+use Rattle.shells.proofs.Totals.{all-triangles}
+use Rattle.closed.specs.Left.{Mesh, meshLeft, smoothed}
+use Rattle.closed.specs.Shell.{SidesStay, Unmarked, trianglesIn, Closed}
+use Rattle.closed.specs.Listed.{inShell, Right}
+use Rattle.closed.proofs.Shell.{shell-closed, smoothed-shell-closed}
+
+-- a granted call's numbering, and that the mesh passed
+record Given (m : Mesh) (o : Outcome) : Type 0 where
+  numbering : Numbering (trianglesOf (m .triangles)) (length (m .marks)) (o .numbers) (o .shells)
+  corners-fit : trianglesFit (m .triangles) (length (m .marks)) ≡ true
+  marks-fit : allWithin 1 (m .marks) ≡ true
+
+-- where no element passes, one that stands in the list does not
+none-passes : {A : Type 0} (t : A → Bool) (xs : List A) (i : ℕ) (d : A) → anyOf t xs ≡ false → i < length xs → t (getD xs i d) ≡ false
+unfolding anyOf
+none-passes t [] i d h l = absurd (omega arith)
+none-passes t (x ∷ xs) i d h l = go (t x) refl i l h (λ j e k. none-passes t xs j d e k)
+  where
+    go : (b : Bool) → t x ≡ b → (i : ℕ) → i < suc (length xs) → (b || anyOf t xs) ≡ false
+        → ((j : ℕ) → anyOf t xs ≡ false → j < length xs → t (getD xs j d) ≡ false) → t (getD (x ∷ xs) i d) ≡ false
+    go true e i l h later = absurd (true≢false h)
+    go false e zero l h later = e
+    go false e (suc i) l h later = later i h (omega arith)
+
+one-is-none : (b : Bool) → one-if b ≡ 0 → b ≡ false
+one-is-none true h = absurd (omega arith)
+one-is-none false h = refl
+
+module _ (m : Mesh) (numbers work : List ℕ) (room : List Shell) (o : Outcome) (after : List Shell)
+    (shells : Shells (m .points) (m .triangles) (m .marks) numbers work room o after) (none : o .number ≡ 0) where
+  given : Given m o
+  given = go (shells .lists)
+    where
+      go : Lists (m .points) (m .triangles) (m .marks) (length room) numbers work o → Given m o
+      go (refused n e) = absurd (n (sym (ap (λ x. x .number) e) ∙ none))
+      go (crowded z f s N l e) = absurd (omega (arith, none, ap (λ x. x .number) e))
+      go (granted z f s N l e) =
+          let p = passed (m .points) (m .triangles) (m .marks) (length numbers) (length work) z in
+          record {
+            numbering = rw (ap (λ x. x .numbers) e, ap (λ x. x .shells) e) N;
+            corners-fit = p .corners-fit;
+            marks-fit = p .marks-fit;
+          }
+
+  abbrev N : Numbering (trianglesOf (m .triangles)) (length (m .marks)) (o .numbers) (o .shells)
+  N = given .numbering
+
+  abbrev record-of : ℕ → Shell
+  record-of n = recordOf (m .points) (m .triangles) (m .marks) (o .numbers) n
+
+  -- record n stands in the room
+  pub record-at : (n : ℕ) (d : Shell) → n < o .shells → getD after n d ≡ record-of n
+  unfolding recordsAfter
+  record-at n d l =
+      ap (λ xs. getD xs n d) (shells .records ∙ ap (λ b. cond b (laid (listTo (o .shells) record-of) room) room) (eq-eqb (o .number) 0 none))
+      ∙ laid-at (o .shells) n record-of room d l
+
+  -- the corners of a triangle stand under one shell
+  under-one : (k : ℕ) → k < triangleCount (m .triangles) → let t = triangleAt (m .triangles) k in
+      (numberOf (o .numbers) (t .one) ≡ numberOf (o .numbers) (t .two)) × (numberOf (o .numbers) (t .two) ≡ numberOf (o .numbers) (t .three))
+  under-one k l =
+      let t = triangleAt (m .triangles) k in
+      let c = corners (m .triangles) (length (m .marks)) k (given .corners-fit) l in (
+        N .same (t .one) (t .two) (c .first) (c .second) (led-first (m .triangles) k l),
+        N .same (t .two) (t .three) (c .second) (c .third) (led-second (m .triangles) k l),
+      )
+
+  pub shells-right : Right m (o .numbers) (o .shells) record-of
+  shells-right =
+      record {
+        led = N .led;
+        same = N .same;
+        listed = N .small;
+        own = λ n l. let b = by-lowest (m .points) (m .triangles) (m .marks) (o .numbers) (o .shells) N n l in (b .small, b .number);
+        lowest = λ n p l lp is.
+            let b = by-lowest (m .points) (m .triangles) (m .marks) (o .numbers) (o .shells) N n l in
+            b .lowest p lp (is ∙ sym (b .number));
+        once = lows-rise (m .points) (m .triangles) (m .marks) (o .numbers) (o .shells) N;
+        one-shell = under-one;
+        counted = all-triangles (m .points) (m .triangles) (m .marks) (o .numbers) (o .shells) N (given .corners-fit);
+      }
+
+  -- no side leads out of a shell
+  sides-stay : (n : ℕ) → SidesStay (inShell (o .numbers) n) (trianglesOf (m .triangles))
+  unfolding trianglesOf sides
+  sides-stay n =
+      of-join (λ ts. SidesStay (inShell (o .numbers) n) ts) tt both-parts (triangleCount (m .triangles)) (λ i. triangleAt (m .triangles) i ∷ [])
+      (λ k l.
+      let u = under-one k l in
+      (ap (λ x. eqb x n) (u .0), (ap (λ x. eqb x n) (u .1), (ap (λ x. eqb x n) (sym (u .1) ∙ sym (u .0)), tt))))
+    where
+      both-parts : (xs ys : List Triangle) → SidesStay (inShell (o .numbers) n) xs → SidesStay (inShell (o .numbers) n) ys → SidesStay (inShell (o .numbers) n) (xs ++ ys)
+      both-parts xs ys a b =
+          rw (sides-append xs ys) (all-append (λ s. inShell (o .numbers) n (s .from) ≡ inShell (o .numbers) n (s .to)) (sides xs) (sides ys) a b)
+
+  -- a shell that touches no outer face has no marked point
+  no-mark : (n : ℕ) → record-of n .touches ≡ 0 → Unmarked (inShell (o .numbers) n) m
+  unfolding recordFrom pointsUnder
+  no-mark n touches p here = go (decLt p (length (m .marks)))
+    where
+      go : Dec (p < length (m .marks)) → getD (m .marks) p 0 ≡ 0
+      go (yes l) =
+          let f = none-passes (λ q. eqb (getD (m .marks) q 0) 1) (keepTo (length (m .marks)) (inShell (o .numbers) n)) (countTo p (inShell (o .numbers) n)) 0 (one-is-none _ touches)
+          (omega (arith, length-keep (length (m .marks)) (inShell (o .numbers) n), rank-lt (length (m .marks)) p (inShell (o .numbers) n) l here)) in
+          let e = rw (at-rank (length (m .marks)) p (inShell (o .numbers) n) l here) at f in
+          let d = eqb-false (getD (m .marks) p 0) 1 e in
+          not-one (getD (m .marks) p 0) (within-any 1 (m .marks) p (given .marks-fit)) d
+        where
+          not-one : (k : ℕ) → k ≤ 1 → (k ≡ 1 → ⊥) → k ≡ 0
+          not-one zero l d = refl
+          not-one (suc zero) l d = absurd (d refl)
+          not-one (suc (suc k)) l d = absurd (omega arith)
+      go (no l) = List·getD-eq-default (m .marks) 0 (omega arith)
+
+-- the shells of an extracted mesh, raw or smoothed, in a granted list
+module _ (nx ny nz grey : ℕ) (samples : List ℕ) (before : Rooms) (left : Extracted) (extracts : Extracts nx ny nz grey samples before left) (granted-mesh : left .number ≡ 0)
+    (numbers work : List ℕ) (room : List Shell) (o : Outcome) (after : List Shell) (none : o .number ≡ 0) (n : ℕ) (d : Shell) (small : n < o .shells) (touches : getD after n d .touches ≡ 0) where
+  pub listed-shell-closed : let m = meshLeft left in Shells (m .points) (m .triangles) (m .marks) numbers work room o after
+      → Closed (trianglesIn (inShell (o .numbers) n) (trianglesOf (m .triangles)))
+  listed-shell-closed shells =
+      let m = meshLeft left in
+      shell-closed nx ny nz grey samples before left extracts granted-mesh (inShell (o .numbers) n) (sides-stay m numbers work room o after shells none n)
+      (no-mark m numbers work room o after shells none n (sym (ap (λ s. s .touches) (record-at m numbers work room o after shells none n d small)) ∙ touches))
+
+  pub smoothed-listed-shell-closed : (k w : ℕ) → let m = smoothed k w (meshLeft left) in Shells (m .points) (m .triangles) (m .marks) numbers work room o after
+      → Closed (trianglesIn (inShell (o .numbers) n) (trianglesOf (m .triangles)))
+  smoothed-listed-shell-closed k w shells =
+      let m = smoothed k w (meshLeft left) in
+      smoothed-shell-closed nx ny nz grey samples before left extracts granted-mesh (inShell (o .numbers) n) k w (sides-stay m numbers work room o after shells none n)
+      (no-mark m numbers work room o after shells none n (sym (ap (λ s. s .touches) (record-at m numbers work room o after shells none n d small)) ∙ touches))
