@@ -1,0 +1,3 @@
+-- Reading what was written gives it back, and the other way round; reading at a place of an input.
+pub mod Digits
+pub mod Places

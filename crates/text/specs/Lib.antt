@@ -1,0 +1,3 @@
+-- Text (document 01, "The program for small grids"). Reading order: numbers in decimal; pieces read from the front of a text.
+pub mod Decimal
+pub mod Reading

@@ -1,0 +1,109 @@
+// Numbers and rows of numbers read from a place of a text on.
+ghost use Prim.Native.Nat.{_≤_};
+ghost use mathlib.Core.Path.{_≡_};
+ghost use mathlib.Core.Bool.{false};
+ghost use lib.ListN.{length, drop};
+ghost use Rattle.text.specs.Decimal.{isDigit};
+ghost use Rattle.text.specs.Reading.{digitsOn, readNumber, readField, Reads};
+
+// The number that was read, and the place behind it; or not ok.
+pub struct Field {
+    pub ok: bool,
+    pub value: u64,
+    pub next: usize,
+}
+
+fn nothing() -> Field
+    ensures { λ r. ⌜ (r .ok ≡ false) × (r .value ≡ 0) × (r .next ≡ 0) ⌝ }
+{
+    Field {
+        ok: false,
+        value: 0,
+        next: 0,
+    }
+}
+
+fn is_digit(byte: u8) -> bool
+    ensures { λ r. ⌜ r ≡ isDigit byte ⌝ }
+{
+    if byte < b'0' {
+        return false;
+    }
+    byte <= b'9'
+}
+
+// Goes on reading digits after those whose number is `first`. Whether the number stays within `most` is asked before it is made, so that it cannot wrap.
+fn read_digits(input: &[u8], from: usize, first: u64, most: u64) -> Field
+    requires { ⌜ (from ≤ length (now input)) × (first ≤ most) × (9 ≤ most) ⌝ }
+    ensures { λ r. ⌜ Reads (now (input .entry)) most (digitsOn most first (drop from (now (input .entry)))) r ⌝ }
+{
+    let mut at = from;
+    let mut value = first;
+    while at < input.len() {
+        let byte = input[at];
+        if !is_digit(byte) {
+            return Field {
+                ok: true,
+                value,
+                next: at,
+            };
+        }
+        let digit = (byte - b'0') as u64;
+        if value > (most - digit) / 10 {
+            return nothing();
+        }
+        value = 10 * value + digit;
+        at += 1;
+    }
+    Field {
+        ok: true,
+        value,
+        next: at,
+    }
+}
+
+// A number from 0 to `most`, with no sign and no needless zero.
+pub fn read_number(input: &[u8], from: usize, most: u64) -> Field
+    requires { ⌜ 9 ≤ most ⌝ }
+    ensures { λ r. ⌜ Reads (now (input .entry)) most (readNumber most (drop from (now (input .entry)))) r ⌝ }
+{
+    if from >= input.len() {
+        return nothing();
+    }
+    let byte = input[from];
+    if byte == b'0' {
+        return Field {
+            ok: true,
+            value: 0,
+            next: from + 1,
+        };
+    }
+    if !is_digit(byte) {
+        return nothing();
+    }
+    let first = (byte - b'0') as u64;
+    read_digits(input, from + 1, first, most)
+}
+
+// A number and the byte that ends it.
+pub fn read_field(input: &[u8], from: usize, most: u64, end: u8) -> Field
+    requires { ⌜ 9 ≤ most ⌝ }
+    ensures { λ r. ⌜ Reads (now (input .entry)) most (readField most end (drop from (now (input .entry)))) r ⌝ }
+{
+    let field = read_number(input, from, most);
+    if !field.ok {
+        return nothing();
+    }
+    let at = field.next;
+    if at >= input.len() {
+        return nothing();
+    }
+    if input[at] != end {
+        return nothing();
+    }
+    Field {
+        ok: true,
+        value: field.value,
+        next: at + 1,
+    }
+}
