@@ -10,7 +10,8 @@ use borrow.Author.Tests.{eq-eqb, ne-eqb}
 use lib.ListN.{length, getD, drop, drop-of-length-le}
 use lib.Seq.{drop-cons}
 use Rattle.text.specs.Decimal.{isDigit}
-use Rattle.text.specs.Reading.{Got, bad, got, digitsOn, readNumber, after, endedBy, readField, answered, Reads}
+use Rattle.text.specs.Reading.{Got, bad, got, digitsOn, readNumber, after, endedBy, readField}
+use Rattle.text.specs.Answers.{answered, Reads}
 use Rattle.text.specs.declared.reading.Field.{Field}
 use Rattle.text.proofs.Digits.{digits-stop, digits-over, digits-next, digits-done, number-empty, number-zero, number-none, number-starts}
 

@@ -1,12 +1,9 @@
 -- Pieces read from the front of a text.
-use mathlib.Core.Path.{_≡_}
-use mathlib.Core.List.{List, [], _∷_}
+use mathlib.Core.List.{List, [], _∷_, _++_}
 use mathlib.Core.Bool.{Bool, cond}
-use Prim.Native.Nat.{ℕ, zero, suc, _+_, _*_, _-_, _≤_}
+use Prim.Native.Nat.{ℕ, zero, suc, _+_, _*_, _-_}
 use lib.Dec.{eqb, leb}
-use lib.ListN.{length, drop}
 use Rattle.text.specs.Decimal.{digit, isDigit}
-use Rattle.text.specs.declared.reading.Field.{Field}
 
 -- what the text starts with, and the rest of it; or the text starts otherwise
 pub data Got (A : Type 0) : Type 0 where
@@ -39,12 +36,42 @@ endedBy end n (b ∷ rest) = cond (eqb b end) (got n rest) bad
 unfoldable pub readField : ℕ → ℕ → List ℕ → Got ℕ
 readField most end bs = after (endedBy end) (readNumber most bs)
 
--- the answer of a reading function over a whole input: the number and the place behind it
-unfoldable pub answered : List ℕ → Field → Got ℕ
-answered input r = cond (r .ok) (got (r .value) (drop (r .next) input)) bad
+-- fields are parted by tabs and a line is ended by a line feed: the byte behind a field that has k fields after it
+abbrev pub tab : ℕ
+tab = 9
 
--- it says what was read from the place on
-pub record Reads (input : List ℕ) (most : ℕ) (read : Got ℕ) (r : Field) : Type 0 where
-  pub same : read ≡ answered input r
-  pub within : r .value ≤ most
-  pub inside : r .next ≤ length input
+abbrev pub lineFeed : ℕ
+lineFeed = 10
+
+unfoldable pub endOf : ℕ → ℕ
+endOf zero = lineFeed
+endOf (suc k) = tab
+
+-- the largest number of a grid's text
+abbrev pub mostNumber : ℕ
+mostNumber = 65535
+
+-- a line, or what is left of it, of so many numbers
+unfoldable pub readRow : ℕ → ℕ → List ℕ → Got (List ℕ)
+readRow most zero bs = got [] bs
+readRow most (suc k) bs =
+    after (λ n rest. after (λ ns rest. got (n ∷ ns) rest) (readRow most k rest)) (readField most (endOf k) bs)
+
+-- lines of so many numbers to the end of the text: their numbers, or the number of the first line that is malformed. After the last line,
+-- bytes are a malformed line; before it, the end of the text is
+pub data Rows : Type 0 where
+  malformed : ℕ → Rows
+  rows : List ℕ → Rows
+
+unfoldable pub ahead : List ℕ → Rows → Rows
+ahead ns (malformed line) = malformed line
+ahead ns (rows ms) = rows (ns ++ ms)
+
+unfoldable pub lineThen : ℕ → (List ℕ → Rows) → Got (List ℕ) → Rows
+lineThen line others bad = malformed line
+lineThen line others (got ns rest) = ahead ns (others rest)
+
+unfoldable pub readRows : ℕ → ℕ → ℕ → ℕ → List ℕ → Rows
+readRows most width zero line [] = rows []
+readRows most width zero line (b ∷ bs) = malformed line
+readRows most width (suc k) line bs = lineThen line (readRows most width k (line + 1)) (readRow most width bs)

@@ -1,15 +1,25 @@
 // Numbers and rows of numbers read from a place of a text on.
-ghost use Prim.Native.Nat.{_≤_};
+ghost use Prim.Native.Nat.{_+_, _*_, _≤_, _<_};
 ghost use mathlib.Core.Path.{_≡_};
 ghost use mathlib.Core.Bool.{false};
-ghost use lib.ListN.{length, drop};
+ghost use lib.ListN.{length, take, drop};
 ghost use Rattle.text.specs.Decimal.{isDigit};
-ghost use Rattle.text.specs.Reading.{digitsOn, readNumber, readField, Reads};
+ghost use Rattle.text.specs.Reading.{digitsOn, readNumber, readField, endOf, mostNumber, readRow, readRows};
+ghost use Rattle.text.specs.Answers.{Reads, answeredLine, answeredRows};
+
+// The largest number of a grid's text.
+const MOST_NUMBER: u64 = 65_535;
 
 // The number that was read, and the place behind it; or not ok.
 pub struct Field {
     pub ok: bool,
     pub value: u64,
+    pub next: usize,
+}
+
+// A line was read, up to the place behind it; or not ok.
+pub struct Line {
+    pub ok: bool,
     pub next: usize,
 }
 
@@ -106,4 +116,31 @@ pub fn read_field(input: &[u8], from: usize, most: u64, end: u8) -> Field
         value: field.value,
         next: at + 1,
     }
+}
+
+// The byte behind a field that has `left` fields after it in its line.
+fn end_of(left: usize) -> u8
+    ensures { λ r. ⌜ r ≡ endOf left ⌝ }
+{
+    if left == 0 { b'\n' } else { b'\t' }
+}
+
+// Reads a line of `count` numbers of 16 bits into the room from `base` on.
+pub fn read_row(input: &[u8], from: usize, count: usize, room: &mut [u16], base: usize) -> Line
+    requires { ⌜ base + count ≤ length (now room) ⌝ }
+    ensures line { λ r. ⌜ readRow mostNumber count (drop from (now (input .entry))) ≡ answeredLine (now (input .entry)) r (take count (drop base (now (room .exit)))) ⌝ }
+    ensures kept { λ _. ⌜ take base (now (room .exit)) ≡ take base (now (room .entry)) ⌝ }
+{
+    let mut at = from;
+    let mut i = 0;
+    while i < count {
+        let field = read_field(input, at, MOST_NUMBER, end_of(count - i - 1));
+        if !field.ok {
+            return Line { ok: false, next: 0 };
+        }
+        room[base + i] = field.value as u16;
+        at = field.next;
+        i += 1;
+    }
+    Line { ok: true, next: at }
 }

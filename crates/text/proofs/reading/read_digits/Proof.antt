@@ -10,7 +10,8 @@ use lib.Seq.{drop-cons}
 use borrow.Author.Needs.{needs}
 use borrow.Author.Tests.{not-true, not-false}
 use Rattle.text.specs.Decimal.{isDigit}
-use Rattle.text.specs.Reading.{digitsOn, answered, Reads}
+use Rattle.text.specs.Reading.{digitsOn}
+use Rattle.text.specs.Answers.{answered, Reads}
 use Rattle.text.proofs.Digits.{of-digit}
 use Rattle.text.proofs.Places.{reads-nothing, digits-end-at, digits-stop-at, digits-over-at, digits-next-at}
 use Rattle.text.proofs.reading.read_digits.Statement.{statement}

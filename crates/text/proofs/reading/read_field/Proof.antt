@@ -3,7 +3,7 @@ use mathlib.Core.Path.{_≡_, refl, sym, _∙_}
 use mathlib.Core.List.{[]}
 use native.Mathlib.Omega.{arith}
 use borrow.Author.Tests.{not-true, not-false}
-use Rattle.text.specs.Reading.{answered, Reads}
+use Rattle.text.specs.Answers.{answered, Reads}
 use Rattle.text.proofs.Places.{reads-nothing, read-not, read-is, field-none, field-end-at, field-other-at, field-at}
 use borrow.Author.Needs.{needs}
 use Rattle.text.proofs.reading.read_field.Statement.{statement}

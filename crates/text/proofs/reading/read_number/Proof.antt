@@ -2,7 +2,7 @@
 use mathlib.Core.Path.{_≡_, refl, sym, _∙_}
 use native.Mathlib.Omega.{arith}
 use borrow.Author.Tests.{not-true, not-false}
-use Rattle.text.specs.Reading.{answered, Reads}
+use Rattle.text.specs.Answers.{answered, Reads}
 use Rattle.text.proofs.Digits.{of-digit}
 use Rattle.text.proofs.Places.{reads-nothing, number-end-at, number-zero-at, number-none-at, number-starts-at}
 use borrow.Author.Needs.{needs}
