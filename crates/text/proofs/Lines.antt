@@ -2,12 +2,12 @@
 use mathlib.Core.Path.{_≡_, refl, ap, sym, _∙_}
 use mathlib.Core.List.{List, [], _∷_, _++_, append-assoc, append-nil}
 use mathlib.Core.Bool.{Bool, true, false}
-use Prim.Native.Nat.{ℕ, zero, suc, _+_, _-_, _≤_, _<_}
-use native.Mathlib.Nat.{sub-zero}
+use Prim.Native.Nat.{ℕ, zero, suc, _+_, _*_, _-_, _≤_, _<_}
+use native.Mathlib.Nat.{sub-zero, mul-suc, mul-le-mul-left}
 use native.Mathlib.Numerals.{add-one}
 use native.Mathlib.Omega.{arith}
 use lib.ListN.{length, getD, take, drop, set, length-drop}
-use lib.Seq.{take-suc-set, drop-set-add, take-set-le}
+use lib.Seq.{take-suc-set, drop-set-add, take-add}
 use Rattle.text.specs.Reading.{Got, bad, got, after, readField, endOf, readRow, Rows, malformed, rows, ahead, lineThen, readRows}
 
 -- numbers read before a line goes on
@@ -73,3 +73,65 @@ end-feed k e = rw e
 module _ (room : List ℕ) (base i v : ℕ) (l : base + i < length room) where
   pub stands-next : take (i + 1) (drop base (set room (base + i) v)) ≡ take i (drop base room) ++ (v ∷ [])
   stands-next = rw (add-one, drop-set-add base room i v) (take-suc-set (drop base room) i v (rw length-drop (omega arith)))
+
+-- rows read before the others
+ahead-none : (read : Rows) → ahead [] read ≡ read
+unfolding ahead
+ahead-none (malformed line) = refl
+ahead-none (rows ns) = refl
+
+ahead-ahead : (ns ms : List ℕ) (read : Rows) → ahead ns (ahead ms read) ≡ ahead (ns ++ ms) read
+unfolding ahead
+ahead-ahead ns ms (malformed line) = refl
+ahead-ahead ns ms (rows ls) = rw append-assoc
+
+module _ (most width k line : ℕ) (bs : List ℕ) where
+  first-stops : readRow most width bs ≡ bad → readRows most width (suc k) line bs ≡ malformed line
+  unfolding readRows lineThen
+  first-stops e = rw e
+
+  first-read : (ns rest : List ℕ) → readRow most width bs ≡ got ns rest → readRows most width (suc k) line bs ≡ ahead ns (readRows most width k (line + 1) rest)
+  unfolding readRows lineThen
+  first-read ns rest e = rw e
+
+-- the same in a loop that has read i of so many lines, of which the first is line 2
+pub rows-begin : (most width count : ℕ) (bs : List ℕ) → readRows most width count 2 bs ≡ ahead [] (readRows most width (count - 0) 2 bs)
+rows-begin most width count bs = rw sub-zero (sym (ahead-none (readRows most width count 2 bs)))
+
+module _ (most width count i : ℕ) (ns bs : List ℕ) where
+  module _ (l : i < count) where
+    pub rows-stop : readRow most width bs ≡ bad → ahead ns (readRows most width (count - i) (i + 2) bs) ≡ malformed (i + 2)
+    unfolding ahead
+    rows-stop h =
+        let e : count - i ≡ suc (count - i - 1) = omega arith in
+        rw (e, first-stops most width (count - i - 1) (i + 2) bs h)
+
+    pub rows-turn : (ms rest : List ℕ) → readRow most width bs ≡ got ms rest → ahead ns (readRows most width (count - i) (i + 2) bs) ≡ ahead (ns ++ ms) (readRows most width (count - (i + 1)) (i + 1 + 2) rest)
+    rows-turn ms rest h =
+        let e : count - i ≡ suc (count - i - 1) = omega arith in
+        let f : count - (i + 1) ≡ count - i - 1 = omega arith in
+        let g : i + 1 + 2 ≡ i + 2 + 1 = omega arith in
+        rw (e, f, g, first-read most width (count - i - 1) (i + 2) bs ms rest h) (ahead-ahead ns ms (readRows most width (count - i - 1) (i + 2 + 1) rest))
+
+  pub rows-over : i ≡ count → (b : ℕ) (rest : List ℕ) → bs ≡ b ∷ rest → ahead ns (readRows most width (count - i) (i + 2) bs) ≡ malformed (i + 2)
+  unfolding ahead readRows
+  rows-over q b rest h =
+      let e : count - i ≡ 0 = omega arith in
+      rw (e, h)
+
+  pub rows-done : i ≡ count → bs ≡ [] → ahead ns (readRows most width (count - i) (i + 2) bs) ≡ rows ns
+  unfolding ahead readRows
+  rows-done q h =
+      let e : count - i ≡ 0 = omega arith in
+      rw (e, h, append-nil)
+
+-- the next row's place in a room of rows
+module _ (width count base i : ℕ) (q : base ≡ width * i) where
+  pub row-fits : i < count → base + width ≤ width * count
+  row-fits l = let e : base + width ≡ width * suc i = rw (q, mul-suc) in rw e (mul-le-mul-left width l)
+
+  pub row-after : base + width ≡ width * (i + 1)
+  row-after = rw (q, add-one, mul-suc)
+
+pub rows-joined : (old room : List ℕ) (base width : ℕ) → take base room ≡ take base old → take (base + width) room ≡ take base old ++ take width (drop base room)
+rows-joined old room base width e = take-add base width room ∙ rw e

@@ -11,8 +11,9 @@ use lib.ListN.{length, getD, drop, drop-of-length-le}
 use lib.Seq.{drop-cons}
 use Rattle.text.specs.Decimal.{isDigit}
 use Rattle.text.specs.Reading.{Got, bad, got, digitsOn, readNumber, after, endedBy, readField}
-use Rattle.text.specs.Answers.{answered, Reads}
+use Rattle.text.specs.Answers.{answered, Reads, answeredLine}
 use Rattle.text.specs.declared.reading.Field.{Field}
+use Rattle.text.specs.declared.reading.Line.{Line}
 use Rattle.text.proofs.Digits.{digits-stop, digits-over, digits-next, digits-done, number-empty, number-zero, number-none, number-starts}
 
 -- nothing was read, and so it is answered
@@ -28,6 +29,14 @@ read-not {r = r} h e = rw e at (h .same)
 pub read-is : {input : List ℕ} {most : ℕ} {read : Got ℕ} {r : Field} → Reads input most read r → r .ok ≡ true → read ≡ got (r .value) (drop (r .next) input)
 unfolding answered
 read-is {r = r} h e = rw e at (h .same)
+
+pub line-not : (input ns : List ℕ) (r : Line) {read : Got (List ℕ)} → read ≡ answeredLine input r ns → r .ok ≡ false → read ≡ bad
+unfolding answeredLine
+line-not input ns r h e = rw e at h
+
+pub line-is : (input ns : List ℕ) (r : Line) {read : Got (List ℕ)} → read ≡ answeredLine input r ns → r .ok ≡ true → read ≡ got ns (drop (r .next) input)
+unfolding answeredLine
+line-is input ns r h e = rw e at h
 
 -- the byte at a place, and the rest
 pub byte-at : (input : List ℕ) (at : ℕ) → at < length input → drop at input ≡ getD input at 0 ∷ drop (at + 1) input

@@ -1,5 +1,5 @@
 // Numbers and rows of numbers read from a place of a text on.
-ghost use Prim.Native.Nat.{_+_, _*_, _≤_, _<_};
+ghost use Prim.Native.Nat.{_+_, _*_, _^_, _≤_, _<_};
 ghost use mathlib.Core.Path.{_≡_};
 ghost use mathlib.Core.Bool.{false};
 ghost use lib.ListN.{length, take, drop};
@@ -143,4 +143,27 @@ pub fn read_row(input: &[u8], from: usize, count: usize, room: &mut [u16], base:
         i += 1;
     }
     Line { ok: true, next: at }
+}
+
+// Reads `count` lines of `width` numbers to the end of the input into the room. Answers 0, or the first malformed line, where the first is line 2.
+pub fn read_rows(input: &[u8], from: usize, width: usize, count: u32, room: &mut [u16]) -> u32
+    requires { ⌜ (width * count ≤ length (now room)) × (count + 2 < 2 ^ 32) ⌝ }
+    ensures { λ r. ⌜ readRows mostNumber width count 2 (drop from (now (input .entry))) ≡ answeredRows r (take (width * count) (now (room .exit))) ⌝ }
+{
+    let mut at = from;
+    let mut base = 0;
+    let mut i: u32 = 0;
+    while i < count {
+        let line = read_row(input, at, width, room, base);
+        if !line.ok {
+            return i + 2;
+        }
+        at = line.next;
+        base += width;
+        i += 1;
+    }
+    if at < input.len() {
+        return i + 2;
+    }
+    0
 }
