@@ -2,3 +2,4 @@
 pub mod Digits
 pub mod Places
 pub mod Lines
+pub mod Samples

@@ -3,3 +3,5 @@
 pub mod Decimal
 pub mod Reading
 pub mod Answers
+pub mod Grid
+pub mod Promise
