@@ -137,8 +137,8 @@ digits-read most v n (b ∷ bs) rest p h =
     same e = cc
 
     go : (t : Bool) → isDigit b ≡ t → (u : Bool) → leb (10 * v + (b - 48)) most ≡ u
-       → (digitsOn most (10 * v + (b - 48)) bs ≡ got n rest → decimal (10 * v + (b - 48)) ++ bs ≡ decimal n ++ rest)
-       → decimal v ++ (b ∷ bs) ≡ decimal n ++ rest
+        → (digitsOn most (10 * v + (b - 48)) bs ≡ got n rest → decimal (10 * v + (b - 48)) ++ bs ≡ decimal n ++ rest)
+        → decimal v ++ (b ∷ bs) ≡ decimal n ++ rest
     go false e u f further = same (sym (digits-stop most v b bs e) ∙ h)
     go true e true f further =
         let s = of-digit b e in
@@ -166,4 +166,3 @@ number-read most n (b ∷ bs) rest h = go (ℕ-discrete b 48) (isDigit b) refl
         let r : decimal (b - 48) ≡ b ∷ [] = decimal-one (b - 48) (omega arith) ∙ rw d in
         rw r at (digits-read most (b - 48) n bs rest (omega arith) (sym (number-starts most b bs ne e) ∙ h))
     go (no ne) false e = never (sym (number-none most b bs ne e) ∙ h)
-

@@ -3,3 +3,4 @@ pub mod Digits
 pub mod Places
 pub mod Lines
 pub mod Samples
+pub mod Checks

@@ -8,13 +8,15 @@ use native.Mathlib.Numerals.{add-one}
 use native.Mathlib.Omega.{arith}
 use lib.Dec.{eqb, leb}
 use lib.ListN.{length, getD, take, drop, set, length-take}
-use lib.Seq.{take-suc, length-take-le, getD-take}
+use lib.Seq.{take-suc, length-take-le, getD-take, take-at}
 use borrow.Author.Tests.{leb-true, eq-eqb, ne-eqb}
 use Rattle.laws.specs.Room.{laid}
 use Rattle.laws.proofs.Tests.{both}
 use Rattle.laws.proofs.Rooms.{laid-next}
 use Rattle.grid.specs.Limits.{leastSide, mostSide}
-use Rattle.text.specs.Reading.{Got, bad, got, after, mostNumber, readRow}
+use Rattle.text.specs.Reading.{Got, bad, got, after, mostNumber, readRow, Rows, malformed, rows}
+use Rattle.text.specs.Answers.{answeredRows}
+use Rattle.text.specs.Promise.{filled}
 use Rattle.text.specs.Grid.{headOf, readHead, sideFits, sidesFit}
 use Rattle.text.specs.declared.small.Head.{Head}
 
@@ -86,3 +88,18 @@ module _ (input : List ℕ) (l : 2 ≤ length input) (g : getD input 0 0 ≡ 71)
   pub head-reads : (ns rest : List ℕ) → readRow mostNumber 6 (drop 2 input) ≡ got (take 6 ns) rest → readHead input ≡ got (headOf ns) rest
   unfolding after
   head-reads ns rest e = rw (head-row input l g t, e, six ns)
+
+-- the room for samples, by the line that was answered
+module _ (read : Rows) (line n : ℕ) (found entry exit : List ℕ) (e : read ≡ answeredRows line (take n found)) where
+  pub filled-well : line ≡ 0 → n ≤ length found → exit ≡ laid (take n found) entry → (read ≡ answeredRows line (take n exit)) × (exit ≡ filled read entry)
+  unfolding answeredRows filled laid
+  filled-well z l x =
+      let q : read ≡ rows (take n found) = rw (eq-eqb line 0 z) at e in
+      let t : take n exit ≡ take n found = ap (take n) x ∙ take-at (take n found) (drop (length (take n found)) entry) n (length-take-le n found l) in
+      (rw (eq-eqb line 0 z, t) q, rw q x)
+
+  pub filled-not : (line ≡ 0 → ⊥) → exit ≡ entry → (read ≡ answeredRows line (take n exit)) × (exit ≡ filled read entry)
+  unfolding answeredRows filled
+  filled-not ne x =
+      let q : read ≡ malformed line = rw (ne-eqb line 0 ne) at e in
+      (rw (ne-eqb line 0 ne) q, rw q x)

@@ -52,13 +52,13 @@ refusal number line = record { number = number; line = line; nx = 0; ny = 0; nz 
 unfoldable pub refused : ℕ → ℕ → List ℕ → Outcome
 refused number line room = record { answer = refusal number line; samples = room }
 
--- the samples fill the room from the front
+-- a grid gives line 1's numbers, and its samples fill the room from the front
+abbrev pub grant : Head → Parsed
+grant h =
+    record { number = 0; line = 0; nx = h .nx; ny = h .ny; nz = h .nz; grey = h .grey; rounds = h .rounds; weight = h .weight }
+
 unfoldable pub granted : Head → List ℕ → List ℕ → Outcome
-granted h ns room =
-    record {
-      answer = record { number = 0; line = 0; nx = h .nx; ny = h .ny; nz = h .nz; grey = h .grey; rounds = h .rounds; weight = h .weight };
-      samples = laid ns room;
-    }
+granted h ns room = record { answer = grant h; samples = laid ns room }
 
 -- rows: ny·nz lines of nx samples from line 2 to the end
 unfoldable pub withRows : Head → List ℕ → Rows → Outcome

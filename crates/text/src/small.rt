@@ -160,7 +160,7 @@ fn fill(input: &[u8], from: usize, width: usize, count: u32, samples: &mut [u16]
     ensures line { λ r. ⌜ readRows mostNumber width count 2 (drop from (now (input .entry))) ≡ answeredRows r (take (width * count) (now (samples .exit))) ⌝ }
     ensures room { λ _. ⌜ now (samples .exit) ≡ filled (readRows mostNumber width count 2 (drop from (now (input .entry)))) (now (samples .entry)) ⌝ }
 {
-    let mut read = [0u16; 512];
+    let mut read = [0u16; MOST_SMALL as usize];
     let line = read_rows(input, from, width, count, &mut read);
     if line == 0 {
         copy(width * (count as usize), &read, samples);

@@ -42,7 +42,7 @@ is-digit-requires c κs = search needs
 -- src/reading.rt:34:13
 returns : tie.Need-returns Inv-loop μ-loop
 unfolding answered
-returns c = 
+returns c =
     let l = c .before .before .before .before in
     record {
       same = l .loop .inv .2 ∙ digits-stop-at _ (l .loop .value) (l .before .before .args .input .now) (l .loop .at) (omega arith) (sym (c .before .is-digit .ensures) ∙ not-true _ (c .if1 .taken));
@@ -90,7 +90,7 @@ loop-less c = omega arith
 
 -- src/reading.rt:31:5
 loop-again : tie.Need-loop-again Inv-loop μ-loop
-loop-again c = 
+loop-again c =
     let l = c .before .before .before .before .before in
     let d = sym (c .before .before .is-digit .ensures) ∙ not-false _ (c .before .if1 .left) in
     (omega arith, omega (arith, of-digit _ d), l .loop .inv .2 ∙ digits-next-at _ (l .loop .value) (l .before .before .args .input .now) (l .loop .at) (omega arith) d (omega (arith, of-digit _ d)))
@@ -98,7 +98,7 @@ loop-again c =
 -- src/reading.rt:25:1
 returns-3 : tie.Need-returns-3 Inv-loop μ-loop
 unfolding answered
-returns-3 c = 
+returns-3 c =
     let l = c .before in
     record {
       same = l .loop .inv .2 ∙ digits-end-at _ (l .loop .value) (l .before .before .args .input .now) (l .loop .at) (omega arith);

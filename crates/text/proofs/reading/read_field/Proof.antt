@@ -22,7 +22,7 @@ nothing-requires-2 : tie.Need-nothing-requires-2
 nothing-requires-2 c κs = search needs
 
 returns-2 : tie.Need-returns-2
-returns-2 c = 
+returns-2 c =
     let e = c .before .before in
     reads-nothing (c .nothing2 .ensures)
     (field-end-at _ _ _ _ (e .before .before .before .before .args .input .now) _ (read-is (e .before .before .read-number .ensures) (not-false _ (e .if1 .left))) (c .before .if2 .taken))
@@ -34,7 +34,7 @@ nothing-requires-3 : tie.Need-nothing-requires-3
 nothing-requires-3 c κs = search needs
 
 returns-3 : tie.Need-returns-3
-returns-3 c = 
+returns-3 c =
     let e = c .before .before .before .before in
     reads-nothing (c .nothing3 .ensures)
     (field-other-at _ _ _ _ (e .before .before .before .before .args .input .now) _ (read-is (e .before .before .read-number .ensures) (not-false _ (e .if1 .left))) (omega arith) (c .before .if3 .taken))
@@ -44,7 +44,7 @@ add-t8 c = search needs
 
 returns-4 : tie.Need-returns-4
 unfolding answered
-returns-4 c = 
+returns-4 c =
     let e = c .before .before .before in
     record {
       same = field-at _ _ _ _ (e .before .before .before .before .args .input .now) _ (read-is (e .before .before .read-number .ensures) (not-false _ (e .if1 .left))) (omega arith) (c .if3 .left);

@@ -23,7 +23,7 @@ add-t10 c = search needs
 
 returns-2 : tie.Need-returns-2
 unfolding answered
-returns-2 c = 
+returns-2 c =
     record {
       same = number-zero-at _ (c .before .before .before .before .args .input .now) _ (omega arith) (c .if2 .taken);
       within = omega arith;
@@ -37,7 +37,7 @@ nothing-requires-2 : tie.Need-nothing-requires-2
 nothing-requires-2 c κs = search needs
 
 returns-3 : tie.Need-returns-3
-returns-3 c = 
+returns-3 c =
     let e = c .before .before .before in
     reads-nothing (c .nothing2 .ensures)
     (number-none-at _ (e .before .before .before .before .args .input .now) _ (omega arith) (e .if2 .left) (sym (c .before .before .is-digit .ensures) ∙ not-true _ (c .before .if3 .taken)))
@@ -55,7 +55,7 @@ read-digits-requires : tie.Need-read-digits-requires
 read-digits-requires c κs = omega (arith, of-digit _ (sym (c .before .is-digit .ensures) ∙ not-false _ (c .if3 .left)))
 
 returns-4 : tie.Need-returns-4
-returns-4 c = 
+returns-4 c =
     let e = c .before .before .before in
     let d = sym (c .before .before .is-digit .ensures) ∙ not-false _ (c .before .if3 .left) in
     rw (number-starts-at _ (e .before .before .before .before .args .input .now) _ (omega arith) (e .if2 .left) d) (c .read-digits .ensures)

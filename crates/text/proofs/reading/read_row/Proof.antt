@@ -43,7 +43,7 @@ same-length c = c .before .before .before .before .before .loop .inv .1
 
 returns : tie.Need-returns Inv-loop μ-loop
 unfolding answeredLine
-returns c = 
+returns c =
     let l = c .before .before .before .before .before in
     (l .loop .inv .3 ∙ row-stops mostNumber _ (l .loop .i) _ _ _ (omega arith) (c .before .before .before .end-of .ensures) (read-not (c .before .before .read-field .ensures) (not-true _ (c .if1 .taken))), l .loop .inv .2)
 
@@ -66,7 +66,7 @@ loop-less : tie.Need-loop-less Inv-loop μ-loop
 loop-less c = omega arith
 
 loop-again : tie.Need-loop-again Inv-loop μ-loop
-loop-again c = 
+loop-again c =
     let l = c .before .before .before .before .before .before in
     let f = c .before .before .before in
     let room = l .loop .room in
@@ -79,7 +79,7 @@ same-length-2 c = c .before .loop .inv .1
 
 returns-2 : tie.Need-returns-2 Inv-loop μ-loop
 unfolding answeredLine
-returns-2 c = 
+returns-2 c =
     let l = c .before in
     (l .loop .inv .3 ∙ row-done mostNumber (l .before .before .before .args .count) (l .loop .i) (λ k. take k (drop (l .before .before .before .args .base) (l .loop .room))) _ (omega arith), l .loop .inv .2)
 

@@ -27,7 +27,7 @@ loop-holds : tie.Need-loop-holds Inv-loop μ-loop
 loop-holds c = (omega arith, sym (mul-zero _), refl, rows-begin mostNumber _ _ _)
 
 read-row-requires : tie.Need-read-row-requires Inv-loop μ-loop
-read-row-requires c κs = 
+read-row-requires c κs =
     let l = c .before .before in
     let a = l .before .before .before .args in
     omega (arith, row-fits (a .width) (a .count) (l .loop .base) (l .loop .i) (l .loop .inv .1) (c .before .loop-test .taken), l .before .before .before .pre)
@@ -36,13 +36,13 @@ add-result : tie.Need-add-result Inv-loop μ-loop
 add-result c = omega arith
 
 same-length : tie.Need-same-length Inv-loop μ-loop
-same-length c = 
+same-length c =
     let r = c .before .before .before .before in
     r .read-row .kept .1 .1 .1 .0 ∙ r .before .before .before .loop .inv .2
 
 returns : tie.Need-returns Inv-loop μ-loop
 unfolding answeredRows
-returns c = 
+returns c =
     let r = c .before .before .before .before in
     let l = r .before .before .before in
     let a = l .before .before .before .args in
@@ -51,7 +51,7 @@ returns c =
     ∙ rw (ne-eqb (l .loop .i + 2) 0 (omega arith)))
 
 add-base : tie.Need-add-base Inv-loop μ-loop
-add-base c = 
+add-base c =
     let l = c .before .before .before .before .before .before .before in
     let a = l .before .before .before .args in
     omega (arith, row-fits (a .width) (a .count) (l .loop .base) (l .loop .i) (l .loop .inv .1) (omega arith), l .before .before .before .pre)
@@ -63,17 +63,18 @@ loop-less : tie.Need-loop-less Inv-loop μ-loop
 loop-less c = omega arith
 
 loop-again : tie.Need-loop-again Inv-loop μ-loop
-loop-again c = 
+loop-again c =
     let r = c .before .before .before .before in
     let l = r .before .before .before in
     let a = l .before .before .before .args in
-    let room = r .read-row .last .1 .1 .1 .0 in
-    (omega arith,
-     row-after (a .width) (a .count) (l .loop .base) (l .loop .i) (l .loop .inv .1),
-     r .read-row .kept .1 .1 .1 .0 ∙ l .loop .inv .2,
-     l .loop .inv .3
-     ∙ (rows-turn mostNumber (a .width) (a .count) (l .loop .i) (take (l .loop .base) (l .loop .room)) (drop (l .loop .at) (a .input .now)) (omega arith) (take (a .width) (drop (l .loop .base) room)) _ (line-is (a .input .now) _ (r .read-row .result) (r .read-row .ensures .0) (not-false _ (c .if1 .left)))
-     ∙ rw (rows-joined (l .loop .room) room (l .loop .base) (a .width) (r .read-row .ensures .1))))
+    let room = r .read-row .last .1 .1 .1 .0 in (
+      omega arith,
+      row-after (a .width) (a .count) (l .loop .base) (l .loop .i) (l .loop .inv .1),
+      r .read-row .kept .1 .1 .1 .0 ∙ l .loop .inv .2,
+      l .loop .inv .3
+          ∙ (rows-turn mostNumber (a .width) (a .count) (l .loop .i) (take (l .loop .base) (l .loop .room)) (drop (l .loop .at) (a .input .now)) (omega arith) (take (a .width) (drop (l .loop .base) room)) _ (line-is (a .input .now) _ (r .read-row .result) (r .read-row .ensures .0) (not-false _ (c .if1 .left)))
+          ∙ rw (rows-joined (l .loop .room) room (l .loop .base) (a .width) (r .read-row .ensures .1))),
+    )
 
 add-result-2 : tie.Need-add-result-2 Inv-loop μ-loop
 add-result-2 c = omega arith
@@ -83,7 +84,7 @@ same-length-2 c = c .before .before .loop .inv .2
 
 returns-2 : tie.Need-returns-2 Inv-loop μ-loop
 unfolding answeredRows
-returns-2 c = 
+returns-2 c =
     let l = c .before .before in
     let a = l .before .before .before .args in
     l .loop .inv .3
@@ -95,7 +96,7 @@ same-length-3 c = c .before .before .loop .inv .2
 
 returns-3 : tie.Need-returns-3 Inv-loop μ-loop
 unfolding answeredRows
-returns-3 c = 
+returns-3 c =
     let l = c .before .before in
     let a = l .before .before .before .args in
     let e : l .loop .i ≡ a .count = omega arith in

@@ -36,7 +36,7 @@ loop-less : tie.Need-loop-less Inv-loop μ-loop
 loop-less c = omega arith
 
 loop-again : tie.Need-loop-again Inv-loop μ-loop
-loop-again c = 
+loop-again c =
     let l = c .before .before in
     let a = l .before .args in
     (omega arith, rw length-set (l .loop .inv .1), ap (λ w. set w (l .loop .i) (getD (a .read .now) (l .loop .i) 0)) (l .loop .inv .2) ∙ copy-next (a .read .now) (a .written .now) (l .loop .i) (omega arith) (omega arith))
@@ -45,7 +45,7 @@ same-length : tie.Need-same-length Inv-loop μ-loop
 same-length c = c .before .loop .inv .1
 
 returns : tie.Need-returns Inv-loop μ-loop
-returns c = 
+returns c =
     let l = c .before in
     let a = l .before .args in
     let e : l .loop .i ≡ a .count = omega arith in

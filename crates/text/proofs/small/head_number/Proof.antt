@@ -24,25 +24,25 @@ mul-if2-2 c = omega (arith, samples-small (c .before .before .before .before .ar
 
 returns-2 : tie.Need-returns-2
 unfolding headNumber
-returns-2 c = 
+returns-2 c =
     let e = c .before .before .before in
     rw (sym (e .before .sides-fit .ensures) ∙ not-false _ (e .if1 .left), lt-leb _ _ (c .if2 .taken))
 
 returns-3 : tie.Need-returns-3
 unfolding headNumber
-returns-3 c = 
+returns-3 c =
     let e = c .before .before .before .before .before in
     rw (sym (e .before .sides-fit .ensures) ∙ not-false _ (e .if1 .left), le-leb _ _ (c .before .before .if2 .left), lt-leb _ _ (c .if3 .taken))
 
 returns-4 : tie.Need-returns-4
 unfolding headNumber
-returns-4 c = 
+returns-4 c =
     let e = c .before .before .before .before .before .before .before in
     rw (sym (e .before .sides-fit .ensures) ∙ not-false _ (e .if1 .left), le-leb _ _ (c .before .before .before .before .if2 .left), le-leb _ _ (c .before .before .if3 .left), lt-leb _ _ (c .if4 .taken))
 
 returns-5 : tie.Need-returns-5
 unfolding headNumber
-returns-5 c = 
+returns-5 c =
     let e = c .before .before .before .before .before .before .before in
     rw (sym (e .before .sides-fit .ensures) ∙ not-false _ (e .if1 .left), le-leb _ _ (c .before .before .before .before .if2 .left), le-leb _ _ (c .before .before .if3 .left), le-leb _ _ (c .if4 .left))
 

@@ -47,7 +47,7 @@ no-head-requires-4 c κs = search needs
 
 returns-4 : tie.Need-returns-4
 unfolding answeredHead
-returns-4 c = 
+returns-4 c =
     let r = c .before .before .before .before in
     let g = r .before .before in
     let input = g .before .before .before .before .before .before .args .input .now in
@@ -61,7 +61,7 @@ head-of-requires c κs = search needs
 
 returns-5 : tie.Need-returns-5
 unfolding answeredHead
-returns-5 c = 
+returns-5 c =
     let r = c .before .before .before .before .before in
     let g = r .before .before in
     let input = g .before .before .before .before .before .before .args .input .now in
