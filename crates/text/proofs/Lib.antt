@@ -4,3 +4,4 @@ pub mod Places
 pub mod Lines
 pub mod Samples
 pub mod Checks
+pub mod Texts

@@ -1,0 +1,11 @@
+-- Lines of numbers as text.
+use mathlib.Core.List.{List, [], _∷_, _++_}
+use Prim.Native.Nat.{ℕ}
+use lib.ListN.{length}
+use Rattle.text.specs.Decimal.{decimal}
+use Rattle.text.specs.Reading.{endOf}
+
+-- numbers parted by tabs, the last ended by a line feed
+unfoldable pub line : List ℕ → List ℕ
+line [] = []
+line (n ∷ ns) = decimal n ++ endOf (length ns) ∷ line ns
