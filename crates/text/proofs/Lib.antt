@@ -5,3 +5,4 @@ pub mod Lines
 pub mod Samples
 pub mod Checks
 pub mod Texts
+pub mod GridTexts
