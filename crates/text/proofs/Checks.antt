@@ -13,7 +13,7 @@ use Rattle.laws.proofs.Tests.{both}
 use Rattle.grid.specs.Limits.{leastSide, mostSide, mostRounds, mostWeight, mostSmall}
 use Rattle.text.specs.Reading.{Got, bad, got, mostNumber, Rows, malformed, rows, readRows}
 use Rattle.text.specs.Answers.{answeredRows}
-use Rattle.text.specs.Grid.{sideFits, sidesFit, samplesOf, headNumber, Outcome, refusal, refused, grant, granted, withRows, withHead}
+use Rattle.text.specs.Grid.{sideFits, sidesFit, samplesOf, smoothingFits, headNumber, Outcome, refusal, refused, grant, granted, withRows, withHead}
 use Rattle.text.specs.Promise.{answeredHead, filled, left}
 use Rattle.text.specs.declared.small.Head.{Head}
 use Rattle.text.specs.declared.small.Headed.{Headed}
@@ -21,7 +21,7 @@ use Rattle.text.specs.declared.small.Parsed.{Parsed}
 
 -- line 1's numbers passed
 pub passed : (h : Head) → headNumber h ≡ 0 → (sidesFit h ≡ true) × (samplesOf h ≤ mostSmall) × (leb (h .rounds) mostRounds && leb (h .weight) mostWeight ≡ true)
-unfolding headNumber
+unfolding headNumber smoothingFits
 passed h e = go (sidesFit h) (leb (samplesOf h) mostSmall) refl (leb (h .rounds) mostRounds && leb (h .weight) mostWeight) e
   where
     go : (s t : Bool) → leb (samplesOf h) mostSmall ≡ t → (u : Bool) → _≡_ {A = ℕ} (cond (not s) 1 (cond (not t) 13 (cond (not u) 10 0))) 0 → (s ≡ true) × (samplesOf h ≤ mostSmall) × (u ≡ true)

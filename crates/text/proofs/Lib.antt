@@ -6,3 +6,5 @@ pub mod Samples
 pub mod Checks
 pub mod Texts
 pub mod GridTexts
+pub mod Examples
+pub mod Outcomes

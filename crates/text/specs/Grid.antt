@@ -34,11 +34,13 @@ sidesFit h = sideFits (h .nx) && (sideFits (h .ny) && sideFits (h .nz))
 abbrev pub samplesOf : Head → ℕ
 samplesOf h = h .nx * (h .ny * h .nz)
 
+unfoldable pub smoothingFits : Head → Bool
+smoothingFits h = leb (h .rounds) mostRounds && leb (h .weight) mostWeight
+
 unfoldable pub headNumber : Head → ℕ
 headNumber h =
     cond (not (sidesFit h)) 1
-    (cond (not (leb (samplesOf h) mostSmall)) 13
-    (cond (not (leb (h .rounds) mostRounds && leb (h .weight) mostWeight)) 10 0))
+    (cond (not (leb (samplesOf h) mostSmall)) 13 (cond (not (smoothingFits h)) 10 0))
 
 -- what a call leaves behind: the answer, and the room that was lent for the samples
 pub record Outcome : Type 0 where
