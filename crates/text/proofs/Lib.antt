@@ -8,3 +8,4 @@ pub mod Texts
 pub mod GridTexts
 pub mod Examples
 pub mod Outcomes
+pub mod Written

@@ -3,6 +3,7 @@ use mathlib.Core.List.{List, [], _∷_, _++_}
 use mathlib.Core.Bool.{Bool, true, false, _&&_}
 use Prim.Native.Nat.{ℕ, zero, suc, _+_, _/_, _%_}
 use lib.Dec.{leb, ltb}
+use lib.IntN.{ℤ, pos, negsuc}
 
 -- the digits `0` to `9` are the bytes 48 to 57
 abbrev pub digit : ℕ → ℕ
@@ -19,3 +20,8 @@ decimalTo (suc k) n = elim (ltb n 10) [ true ↦ digit n ∷ [] | false ↦ deci
 -- a number has no more digits than one more than itself
 unfoldable pub decimal : ℕ → List ℕ
 decimal n = decimalTo (suc n) n
+
+-- a signed number has a minus sign if it is negative
+unfoldable pub signed : ℤ → List ℕ
+signed (pos n) = decimal n
+signed (negsuc n) = 45 ∷ decimal (suc n)

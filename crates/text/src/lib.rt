@@ -1,6 +1,7 @@
 // The text of small grids and of meshes (document 01, "The program for small grids").
 mod reading;
 mod small;
+mod writing;
 
 pub use reading::Field;
 pub use small::Parsed;

@@ -119,7 +119,7 @@ pub fn read_field(input: &[u8], from: usize, most: u64, end: u8) -> Field
 }
 
 // The byte behind a field that has `left` fields after it in its line.
-fn end_of(left: usize) -> u8
+pub fn end_of(left: usize) -> u8
     ensures { λ r. ⌜ r ≡ endOf left ⌝ }
 {
     if left == 0 { b'\n' } else { b'\t' }
