@@ -6,3 +6,4 @@ mod writing;
 pub use reading::Field;
 pub use small::Parsed;
 pub use small::read_grid;
+pub use writing::write_refusal;

@@ -5,7 +5,7 @@ ghost use Prim.Native.Nat.{_+_, _≤_, _<_};
 ghost use lib.ListN.{length, set};
 ghost use lib.Seq.{sets};
 ghost use Rattle.text.specs.Decimal.{decimal};
-ghost use Rattle.text.specs.Writing.{fields};
+ghost use Rattle.text.specs.Writing.{fields, lettered, refusalText, written};
 use crate::reading::end_of;
 
 // How many digits a number has.
@@ -62,4 +62,42 @@ pub fn write_fields(numbers: &[u32], more: usize, room: &mut [u8], from: usize) 
         i += 1;
     }
     at
+}
+
+// How many bytes numbers take as fields of a line, each with the byte that ends it.
+pub fn fields_length(numbers: &[u32]) -> usize
+    requires { ⌜ length (now numbers) ≤ 256 ⌝ }
+    ensures { λ r. ⌜ r ≡ length (fields 0 (now (numbers .entry))) ⌝ }
+{
+    let mut sum = 0;
+    let mut i = 0;
+    while i < numbers.len() {
+        sum += digit_count(numbers[i] as u64) + 1;
+        i += 1;
+    }
+    sum
+}
+
+// Writes a letter and numbers as a line, and answers the place behind it.
+pub fn write_lettered(letter: u8, numbers: &[u32], room: &mut [u8], at: usize) -> usize
+    requires { ⌜ at + length (lettered letter (now numbers)) ≤ length (now room) ⌝ }
+    ensures place { λ r. ⌜ r ≡ at + length (lettered letter (now (numbers .entry))) ⌝ }
+    ensures text { λ _. ⌜ now (room .exit) ≡ sets (now (room .entry)) at (lettered letter (now (numbers .entry))) ⌝ }
+{
+    room[at] = letter;
+    room[at + 1] = b'\t';
+    write_fields(numbers, 0, room, at + 2)
+}
+
+// Writes a refusal's line to the front of the room, and answers its length; a room that is too short stays.
+pub fn write_refusal(number: u32, line: u32, room: &mut [u8]) -> usize
+    ensures length { λ r. ⌜ r ≡ length (refusalText number line) ⌝ }
+    ensures text { λ _. ⌜ now (room .exit) ≡ written (refusalText number line) (now (room .entry)) ⌝ }
+{
+    let numbers = [number, line];
+    let length = 2 + fields_length(&numbers);
+    if room.len() < length {
+        return length;
+    }
+    write_lettered(b'R', &numbers, room, 0)
 }
