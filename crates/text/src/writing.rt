@@ -1,7 +1,7 @@
 // Numbers and lines of numbers written into a lent room from a place on.
 ghost use mathlib.Core.Path.{_≡_};
 ghost use mathlib.Core.List.{_++_, _∷_, []};
-ghost use Prim.Native.Nat.{_+_, _≤_, _<_};
+ghost use Prim.Native.Nat.{_+_, _*_, _≤_, _<_};
 ghost use lib.ListN.{length, set};
 ghost use lib.Seq.{sets};
 ghost use Rattle.text.specs.Decimal.{decimal};
@@ -67,7 +67,8 @@ pub fn write_fields(numbers: &[u32], more: usize, room: &mut [u8], from: usize) 
 // How many bytes numbers take as fields of a line, each with the byte that ends it.
 pub fn fields_length(numbers: &[u32]) -> usize
     requires { ⌜ length (now numbers) ≤ 256 ⌝ }
-    ensures { λ r. ⌜ r ≡ length (fields 0 (now (numbers .entry))) ⌝ }
+    ensures length { λ r. ⌜ r ≡ length (fields 0 (now (numbers .entry))) ⌝ }
+    ensures small { λ r. ⌜ r ≤ 21 * length (now (numbers .entry)) ⌝ }
 {
     let mut sum = 0;
     let mut i = 0;

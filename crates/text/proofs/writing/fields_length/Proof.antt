@@ -63,7 +63,7 @@ loop-again c =
 returns : tie.Need-returns Inv-loop μ-loop
 returns c = 
     let l = c .before in
-    omega (arith, ap length (fields-end 0 (l .before .before .args .numbers .now) (l .loop .i) (c .loop-test .left)))
+    (omega (arith, ap length (fields-end 0 (l .before .before .args .numbers .now) (l .loop .i) (c .loop-test .left))), omega arith)
 
 pub fields-length-spec : {M : Type 1} → statement M
 fields-length-spec =
