@@ -9,3 +9,4 @@ pub mod GridTexts
 pub mod Examples
 pub mod Outcomes
 pub mod Written
+pub mod LinesWritten

@@ -1,4 +1,5 @@
 // The text of small grids and of meshes (document 01, "The program for small grids").
+mod mesh_text;
 mod reading;
 mod small;
 mod writing;

@@ -1,0 +1,52 @@
+// The lines of a mesh: points and triangles, measured and written.
+ghost use mathlib.Core.Path.{_≡_};
+ghost use Prim.Native.Nat.{_+_, _*_, _≤_, _<_};
+ghost use lib.ListN.{length};
+ghost use lib.Seq.{sets};
+ghost use Rattle.laws.specs.Threes.{threeAt};
+ghost use Rattle.grid.specs.Limits.{mostPoints, mostTriangles};
+ghost use Rattle.text.specs.MeshText.{pointNumbers, pointsText, trianglesText};
+use crate::writing::fields_length;
+use crate::writing::write_lettered;
+
+// The numbers of a point's line.
+fn point_numbers(points: &[u32], edges: &[u32], marks: &[u8], i: usize) -> [u32; 5]
+    requires { ⌜ (3 * i + 2 < length (now points)) × (i < length (now edges)) × (i < length (now marks)) ⌝ }
+    ensures { λ r. ⌜ r ≡ pointNumbers (now (points .entry)) (now (edges .entry)) (now (marks .entry)) i ⌝ }
+{
+    let at = 3 * i;
+    [edges[i], points[at], points[at + 1], points[at + 2], marks[i] as u32]
+}
+
+// How many bytes the lines of the first `v` points take.
+fn points_length(points: &[u32], edges: &[u32], marks: &[u8], v: usize) -> usize
+    requires { ⌜ (3 * v ≤ length (now points)) × (v ≤ length (now edges)) × (v ≤ length (now marks)) × (v ≤ mostPoints) ⌝ }
+    ensures length { λ r. ⌜ r ≡ length (pointsText (now (points .entry)) (now (edges .entry)) (now (marks .entry)) v) ⌝ }
+    ensures small { λ r. ⌜ r ≤ 107 * v ⌝ }
+{
+    let mut sum = 0;
+    let mut i = 0;
+    while i < v {
+        let numbers = point_numbers(points, edges, marks, i);
+        sum += 2 + fields_length(&numbers);
+        i += 1;
+    }
+    sum
+}
+
+// Writes the lines of the first `v` points, and answers the place behind them.
+fn write_points(points: &[u32], edges: &[u32], marks: &[u8], v: usize, room: &mut [u8], from: usize) -> usize
+    requires { ⌜ (3 * v ≤ length (now points)) × (v ≤ length (now edges)) × (v ≤ length (now marks)) × (v ≤ mostPoints) ⌝ }
+    requires { ⌜ from + length (pointsText (now points) (now edges) (now marks) v) ≤ length (now room) ⌝ }
+    ensures place { λ r. ⌜ r ≡ from + length (pointsText (now (points .entry)) (now (edges .entry)) (now (marks .entry)) v) ⌝ }
+    ensures text { λ _. ⌜ now (room .exit) ≡ sets (now (room .entry)) from (pointsText (now (points .entry)) (now (edges .entry)) (now (marks .entry)) v) ⌝ }
+{
+    let mut at = from;
+    let mut i = 0;
+    while i < v {
+        let numbers = point_numbers(points, edges, marks, i);
+        at = write_lettered(b'V', &numbers, room, at);
+        i += 1;
+    }
+    at
+}
