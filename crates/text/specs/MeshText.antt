@@ -24,8 +24,11 @@ unfoldable pub pointsText : List ℕ → List ℕ → List ℕ → ℕ → List 
 pointsText points edges marks v = joinTo v (λ i. lettered 86 (pointNumbers points edges marks i))
 
 -- `T`: three points
+abbrev pub triangleNumbers : List ℕ → ℕ → List ℕ
+triangleNumbers triangles i = threeAt triangles (3 * i)
+
 unfoldable pub trianglesText : List ℕ → ℕ → List ℕ
-trianglesText triangles t = joinTo t (λ i. lettered 84 (threeAt triangles (3 * i)))
+trianglesText triangles t = joinTo t (λ i. lettered 84 (triangleNumbers triangles i))
 
 -- the lines of a mesh before those of its shells
 unfoldable pub meshText : ℕ → List ℕ → List ℕ → List ℕ → List ℕ → List ℕ

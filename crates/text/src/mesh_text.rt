@@ -3,9 +3,8 @@ ghost use mathlib.Core.Path.{_≡_};
 ghost use Prim.Native.Nat.{_+_, _*_, _≤_, _<_};
 ghost use lib.ListN.{length};
 ghost use lib.Seq.{sets};
-ghost use Rattle.laws.specs.Threes.{threeAt};
 ghost use Rattle.grid.specs.Limits.{mostPoints, mostTriangles};
-ghost use Rattle.text.specs.MeshText.{pointNumbers, pointsText, trianglesText};
+ghost use Rattle.text.specs.MeshText.{pointNumbers, pointsText, triangleNumbers, trianglesText};
 use crate::writing::fields_length;
 use crate::writing::write_lettered;
 
@@ -46,6 +45,48 @@ fn write_points(points: &[u32], edges: &[u32], marks: &[u8], v: usize, room: &mu
     while i < v {
         let numbers = point_numbers(points, edges, marks, i);
         at = write_lettered(b'V', &numbers, room, at);
+        i += 1;
+    }
+    at
+}
+
+// The numbers of a triangle's line.
+fn triangle_numbers(triangles: &[u32], i: usize) -> [u32; 3]
+    requires { ⌜ 3 * i + 2 < length (now triangles) ⌝ }
+    ensures { λ r. ⌜ r ≡ triangleNumbers (now (triangles .entry)) i ⌝ }
+{
+    let at = 3 * i;
+    [triangles[at], triangles[at + 1], triangles[at + 2]]
+}
+
+// How many bytes the lines of the first `t` triangles take.
+fn triangles_length(triangles: &[u32], t: usize) -> usize
+    requires { ⌜ (3 * t ≤ length (now triangles)) × (t ≤ mostTriangles) ⌝ }
+    ensures length { λ r. ⌜ r ≡ length (trianglesText (now (triangles .entry)) t) ⌝ }
+    ensures small { λ r. ⌜ r ≤ 65 * t ⌝ }
+{
+    let mut sum = 0;
+    let mut i = 0;
+    while i < t {
+        let numbers = triangle_numbers(triangles, i);
+        sum += 2 + fields_length(&numbers);
+        i += 1;
+    }
+    sum
+}
+
+// Writes the lines of the first `t` triangles, and answers the place behind them.
+fn write_triangles(triangles: &[u32], t: usize, room: &mut [u8], from: usize) -> usize
+    requires { ⌜ (3 * t ≤ length (now triangles)) × (t ≤ mostTriangles) ⌝ }
+    requires { ⌜ from + length (trianglesText (now triangles) t) ≤ length (now room) ⌝ }
+    ensures place { λ r. ⌜ r ≡ from + length (trianglesText (now (triangles .entry)) t) ⌝ }
+    ensures text { λ _. ⌜ now (room .exit) ≡ sets (now (room .entry)) from (trianglesText (now (triangles .entry)) t) ⌝ }
+{
+    let mut at = from;
+    let mut i = 0;
+    while i < t {
+        let numbers = triangle_numbers(triangles, i);
+        at = write_lettered(b'T', &numbers, room, at);
         i += 1;
     }
     at
