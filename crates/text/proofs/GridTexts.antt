@@ -79,9 +79,13 @@ head-written h rest e g = rw (row-written mostNumber (h .nx ∷ h .ny ∷ h .nz 
 pub grid-read : (h : Head) (samples room : List ℕ) → Small h samples → samplesOf h ≤ length room → readGrid (gridText h samples) room ≡ granted h samples room
 unfolding readGrid gridText withRows
 grid-read h samples room s l =
-    rw (head-written h (rowsText (sizeOf h) samples) (s .checked) (s .grey), room-holds h (rowsText (sizeOf h) samples) room (s .checked) l, rows-parts h samples,
-        rows-written mostNumber (h .nx) (h .ny * h .nz) 2 (part (h .nx) samples) (part-fits mostNumber (h .nx) samples (s .within)),
-        parts-whole (h .nx) (h .ny * h .nz) samples (s .whole))
+    rw (
+      head-written h (rowsText (sizeOf h) samples) (s .checked) (s .grey),
+      room-holds h (rowsText (sizeOf h) samples) room (s .checked) l,
+      rows-parts h samples,
+      rows-written mostNumber (h .nx) (h .ny * h .nz) 2 (part (h .nx) samples) (part-fits mostNumber (h .nx) samples (s .within)),
+      parts-whole (h .nx) (h .ny * h .nz) samples (s .whole),
+    )
 
 -- line 1, read and written
 six-list : (ns : List ℕ) → length ns ≡ 6 → getD ns 0 0 ∷ getD ns 1 0 ∷ getD ns 2 0 ∷ getD ns 3 0 ∷ getD ns 4 0 ∷ getD ns 5 0 ∷ [] ≡ ns

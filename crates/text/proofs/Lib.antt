@@ -10,3 +10,4 @@ pub mod Examples
 pub mod Outcomes
 pub mod Written
 pub mod LinesWritten
+pub mod MeshTexts

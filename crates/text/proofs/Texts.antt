@@ -60,7 +60,7 @@ digits-within most v n (b ∷ bs) rest l h =
     same e = let q : v ≡ n = cc in omega arith
 
     go : (t : Bool) → isDigit b ≡ t → (u : Bool) → leb (10 * v + (b - 48)) most ≡ u
-       → (10 * v + (b - 48) ≤ most → digitsOn most (10 * v + (b - 48)) bs ≡ got n rest → n ≤ most) → n ≤ most
+        → (10 * v + (b - 48) ≤ most → digitsOn most (10 * v + (b - 48)) bs ≡ got n rest → n ≤ most) → n ≤ most
     go false e u f further = same (sym (digits-stop most v b bs e) ∙ h)
     go true e true f further =
         let m = leb-true (10 * v + (b - 48)) most f in
@@ -108,7 +108,7 @@ row-read most (suc k) ns bs rest l h =
         (number-read most n bs (endOf k ∷ more) r ∙ rw (further .0, further .1, append-assoc), number-within most n bs (endOf k ∷ more) l r)
 
     lined : (n : ℕ) (more ms rest′ : List ℕ) → readField most (endOf k) bs ≡ got n more → IsLine most k ms more rest′
-          → (ns : List ℕ) → got (n ∷ ms) rest′ ≡ got ns rest → IsLine most (suc k) ns bs rest
+        → (ns : List ℕ) → got (n ∷ ms) rest′ ≡ got ns rest → IsLine most (suc k) ns bs rest
     lined n more ms rest′ e further ns h =
         let q : n ∷ ms ≡ ns = cc in
         let r : rest′ ≡ rest = cc in
@@ -116,12 +116,12 @@ row-read most (suc k) ns bs rest l h =
         rw (sym q, sym r) (f .0, ap suc (further .1), (f .1, further .2))
 
     others : (n : ℕ) (more : List ℕ) → readField most (endOf k) bs ≡ got n more → (read : Got (List ℕ)) → ((ms rest′ : List ℕ) → read ≡ got ms rest′ → IsLine most k ms more rest′)
-           → after (λ ms rest. got (n ∷ ms) rest) read ≡ got ns rest → IsLine most (suc k) ns bs rest
+        → after (λ ms rest. got (n ∷ ms) rest) read ≡ got ns rest → IsLine most (suc k) ns bs rest
     others n more e bad further h = never h
     others n more e (got ms rest′) further h = lined n more ms rest′ e (further ms rest′ refl) ns h
 
     field : (read : Got ℕ) → readField most (endOf k) bs ≡ read → ((more ms rest′ : List ℕ) → readRow most k more ≡ got ms rest′ → IsLine most k ms more rest′)
-          → after (λ n rest. after (λ ns rest. got (n ∷ ns) rest) (readRow most k rest)) read ≡ got ns rest → IsLine most (suc k) ns bs rest
+        → after (λ n rest. after (λ ns rest. got (n ∷ ns) rest) (readRow most k rest)) read ≡ got ns rest → IsLine most (suc k) ns bs rest
     field bad e further h = never h
     field (got n more) e further h = others n more e (readRow most k more) (further more) h
 
@@ -158,7 +158,7 @@ unfolding readRows lineThen ahead
 rows-written most width zero at g fits = rw (join-zero (λ r. line (g r)), join-zero g)
 rows-written most width (suc k) at g fits =
     let s : readRow most width (line (g 0) ++ joinTo k (λ r. line (g (1 + r)))) ≡ got (g 0) (joinTo k (λ r. line (g (1 + r)))) =
-            rw (fits 0 .0) at (row-written most (g 0) (joinTo k (λ r. line (g (1 + r)))) (fits 0 .1)) in
+    rw (fits 0 .0) at (row-written most (g 0) (joinTo k (λ r. line (g (1 + r)))) (fits 0 .1)) in
     rw (join-first k (λ r. line (g r)), join-first k g, s, rows-written most width k (at + 1) (λ r. g (1 + r)) (λ r. fits (1 + r)))
 
 -- parts of a list in front of which another row stands
@@ -184,11 +184,12 @@ AreLines most width count ns bs =
     (bs ≡ joinTo count (λ r. line (part width ns r))) × (length ns ≡ width * count) × All (λ n. n ≤ most) ns
 
 lines-more : (most width k : ℕ) (ms ls bs more : List ℕ) → IsLine most width ms bs more → AreLines most width k ls more → AreLines most width (suc k) (ms ++ ls) bs
-lines-more most width k ms ls bs more f o =
-    (f .0 ∙ ap (λ l. line ms ++ l) (o .0) ∙ sym (rw (join-first k (λ r. line (part width (ms ++ ls) r)), part-first width ms ls (f .1))
-       (ap (λ l. line ms ++ l) (join-cong k (λ r. line (part width (ms ++ ls) (1 + r))) (λ r. line (part width ls r)) (λ r l. ap line (part-next width r ms ls (f .1)))))),
-     rw length-append (omega (arith, f .1, o .1, mul-suc width k)),
-     all-append (λ n. n ≤ most) ms ls (f .2) (o .2))
+lines-more most width k ms ls bs more f o = (
+  f .0 ∙ ap (λ l. line ms ++ l) (o .0) ∙ sym (rw (join-first k (λ r. line (part width (ms ++ ls) r)), part-first width ms ls (f .1))
+      (ap (λ l. line ms ++ l) (join-cong k (λ r. line (part width (ms ++ ls) (1 + r))) (λ r. line (part width ls r)) (λ r l. ap line (part-next width r ms ls (f .1)))))),
+  rw length-append (omega (arith, f .1, o .1, mul-suc width k)),
+  all-append (λ n. n ≤ most) ms ls (f .2) (o .2),
+)
 
 never-rows : {B : Type 0} {at : ℕ} {ns : List ℕ} → malformed at ≡ rows ns → B
 never-rows {at = at} {ns = ns} e = let z : _≡_ {A = ℕ} 0 1 = cc in absurd (omega arith)
@@ -212,6 +213,6 @@ rows-read most width (suc k) at ns bs l h =
     others ms more e (rows ls) further h = whole ms ls (lines-more most width k ms ls bs more (row-read most width ms bs more l e) (further ls refl)) h
 
     first : (read : Got (List ℕ)) → readRow most width bs ≡ read → ((more ls : List ℕ) → readRows most width k (at + 1) more ≡ rows ls → AreLines most width k ls more)
-          → lineThen at (readRows most width k (at + 1)) read ≡ rows ns → AreLines most width (suc k) ns bs
+        → lineThen at (readRows most width k (at + 1)) read ≡ rows ns → AreLines most width (suc k) ns bs
     first bad e further h = never-rows h
     first (got ms more) e further h = others ms more e (readRows most width k (at + 1) more) (further more) h

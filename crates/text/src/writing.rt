@@ -58,7 +58,12 @@ pub fn write_fields(numbers: &[u32], more: usize, room: &mut [u8], from: usize) 
     let mut at = from;
     let mut i = 0;
     while i < numbers.len() {
-        at = write_field(numbers[i] as u64, end_of(numbers.len() - i - 1 + more), room, at);
+        at = write_field(
+            numbers[i] as u64,
+            end_of(numbers.len() - i - 1 + more),
+            room,
+            at,
+        );
         i += 1;
     }
     at

@@ -42,17 +42,18 @@ loop-less : tie.Need-loop-less Inv-loop μ-loop
 loop-less c = omega arith
 
 loop-again : tie.Need-loop-again Inv-loop μ-loop
-loop-again c = 
+loop-again c =
     let p = c .before .before in
     let l = p .before .before in
-    let a = l .before .before .args in
-    (omega arith,
-     omega (arith, l .loop .inv .1, c .fields-length .ensures .0, ap (λ n. length (fields 0 n)) (p .triangle-numbers .ensures), lines-length 84 (triangleNumbers (a .triangles .now)) (l .loop .i)),
-     omega (arith, l .loop .inv .2, c .fields-length .ensures .1, ap length (p .triangle-numbers .ensures)))
+    let a = l .before .before .args in (
+      omega arith,
+      omega (arith, l .loop .inv .1, c .fields-length .ensures .0, ap (λ n. length (fields 0 n)) (p .triangle-numbers .ensures), lines-length 84 (triangleNumbers (a .triangles .now)) (l .loop .i)),
+      omega (arith, l .loop .inv .2, c .fields-length .ensures .1, ap length (p .triangle-numbers .ensures)),
+    )
 
 returns : tie.Need-returns Inv-loop μ-loop
 unfolding trianglesText linesTo
-returns c = 
+returns c =
     let l = c .before in
     let a = l .before .before .args in
     let e : l .loop .i ≡ a .t = omega arith in

@@ -39,12 +39,12 @@ short c =
     digits-most 19 n (omega (arith, c .before .shared-slice-known2 .given (l .loop .i)))
 
 add-sum : tie.Need-add-sum Inv-loop μ-loop
-add-sum c = 
+add-sum c =
     let l = c .before .before .before in
     omega (arith, c .digit-count .ensures, short c)
 
 add-sum-2 : tie.Need-add-sum-2 Inv-loop μ-loop
-add-sum-2 c = 
+add-sum-2 c =
     let l = c .before .before .before in
     omega (arith, c .digit-count .ensures, short c)
 
@@ -55,13 +55,13 @@ loop-less : tie.Need-loop-less Inv-loop μ-loop
 loop-less c = omega arith
 
 loop-again : tie.Need-loop-again Inv-loop μ-loop
-loop-again c = 
+loop-again c =
     let l = c .before .before .before in
     let ns = l .before .before .args .numbers .now in
     omega (arith, c .digit-count .ensures, short c, fields-length 0 ns (l .loop .i) (omega arith))
 
 returns : tie.Need-returns Inv-loop μ-loop
-returns c = 
+returns c =
     let l = c .before in
     (omega (arith, ap length (fields-end 0 (l .before .before .args .numbers .now) (l .loop .i) (c .loop-test .left))), omega arith)
 

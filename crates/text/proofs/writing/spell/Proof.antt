@@ -22,7 +22,7 @@ sub-i : tie.Need-sub-i Inv-loop μ-loop
 sub-i c = omega (arith, digits-some (c .args .n))
 
 loop-holds : tie.Need-loop-holds Inv-loop μ-loop
-loop-holds c = 
+loop-holds c =
     let a = c .args in
     let e = nothing-behind (a .n) (a .count) (c .pre .0) in
     (omega (arith, digits-some (a .n)), rw (e, append-nil), omega (arith, digits-some (a .n)), refl, rw e)
@@ -46,15 +46,16 @@ loop-less : tie.Need-loop-less Inv-loop μ-loop
 loop-less c = omega arith
 
 loop-again : tie.Need-loop-again Inv-loop μ-loop
-loop-again c = 
+loop-again c =
     let l = c .before in
     let a = l .before .args in
-    let r = l .loop .rest in
-    (omega arith,
-     tenth-whole (a .n) r (l .loop .i) (l .loop .inv .1) (l .loop .inv .2) (omega arith),
-     tenth-length (a .n) r (l .loop .i) (l .loop .inv .1) (l .loop .inv .2) (omega arith),
-     rw length-set (l .loop .inv .3),
-     ap (λ m. set m (a .at + l .loop .i) (digit (r % 10))) (l .loop .inv .4) ∙ tenth-written (a .n) r (l .loop .i) (l .loop .inv .1) (l .loop .inv .2) (omega arith) (a .room .now) (a .at))
+    let r = l .loop .rest in (
+      omega arith,
+      tenth-whole (a .n) r (l .loop .i) (l .loop .inv .1) (l .loop .inv .2) (omega arith),
+      tenth-length (a .n) r (l .loop .i) (l .loop .inv .1) (l .loop .inv .2) (omega arith),
+      rw length-set (l .loop .inv .3),
+      ap (λ m. set m (a .at + l .loop .i) (digit (r % 10))) (l .loop .inv .4) ∙ tenth-written (a .n) r (l .loop .i) (l .loop .inv .1) (l .loop .inv .2) (omega arith) (a .room .now) (a .at),
+    )
 
 cast-room-2 : tie.Need-cast-room-2 Inv-loop μ-loop
 cast-room-2 c = omega arith
@@ -72,7 +73,7 @@ same-length : tie.Need-same-length Inv-loop μ-loop
 same-length c = rw length-set (c .before .loop .inv .3)
 
 returns : tie.Need-returns Inv-loop μ-loop
-returns c = 
+returns c =
     let l = c .before in
     let a = l .before .args in
     ap (λ m. set m (a .at + l .loop .i) (digit (l .loop .rest))) (l .loop .inv .4) ∙ first-written (a .n) (l .loop .rest) (l .loop .i) (l .loop .inv .1) (l .loop .inv .2) (omega arith) (a .room .now) (a .at)

@@ -44,7 +44,7 @@ end-of-requires : tie.Need-end-of-requires Inv-loop μ-loop
 end-of-requires c κs = search needs
 
 write-field-requires : tie.Need-write-field-requires Inv-loop μ-loop
-write-field-requires c κs = 
+write-field-requires c κs =
     let l = c .before .before .before .before in
     let a = l .before .before .before .args in
     omega (arith, fields-length (a .more) (a .numbers .now) (l .loop .i) (omega arith), l .loop .inv .1, l .loop .inv .2, l .before .before .before .pre .0)
@@ -56,23 +56,24 @@ loop-less : tie.Need-loop-less Inv-loop μ-loop
 loop-less c = omega arith
 
 loop-again : tie.Need-loop-again Inv-loop μ-loop
-loop-again c = 
+loop-again c =
     let w = c .before .before in
     let e = w .before .before in
     let l = e .before .before .before in
-    let a = l .before .before .before .args in
-    (omega arith,
-     w .write-field .kept .1 .1 .0 ∙ l .loop .inv .1,
-     omega (arith, fields-length (a .more) (a .numbers .now) (l .loop .i) (omega arith), l .loop .inv .2, w .write-field .ensures .0),
-     ap (λ k. sets (w .write-field .last .1 .1 .0) k (fields (a .more) (drop (l .loop .i + 1) (a .numbers .now)))) (w .write-field .ensures .0)
-     ∙ (fields-turn (a .more) (a .numbers .now) (l .loop .i) (omega arith) (l .loop .room) (w .write-field .last .1 .1 .0) (l .loop .at) (e .end-of .result) (e .end-of .ensures) (w .write-field .ensures .1)
-     ∙ l .loop .inv .3))
+    let a = l .before .before .before .args in (
+      omega arith,
+      w .write-field .kept .1 .1 .0 ∙ l .loop .inv .1,
+      omega (arith, fields-length (a .more) (a .numbers .now) (l .loop .i) (omega arith), l .loop .inv .2, w .write-field .ensures .0),
+      ap (λ k. sets (w .write-field .last .1 .1 .0) k (fields (a .more) (drop (l .loop .i + 1) (a .numbers .now)))) (w .write-field .ensures .0)
+          ∙ (fields-turn (a .more) (a .numbers .now) (l .loop .i) (omega arith) (l .loop .room) (w .write-field .last .1 .1 .0) (l .loop .at) (e .end-of .result) (e .end-of .ensures) (w .write-field .ensures .1)
+          ∙ l .loop .inv .3),
+    )
 
 same-length : tie.Need-same-length Inv-loop μ-loop
 same-length c = c .before .loop .inv .1
 
 returns : tie.Need-returns Inv-loop μ-loop
-returns c = 
+returns c =
     let l = c .before in
     let a = l .before .before .before .args in
     let e = fields-end (a .more) (a .numbers .now) (l .loop .i) (c .loop-test .left) in

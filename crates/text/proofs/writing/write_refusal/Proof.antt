@@ -20,7 +20,7 @@ add-length c = omega (arith, c .fields-length .ensures .1)
 
 returns : tie.Need-returns
 unfolding refusalText
-returns c = 
+returns c =
     let f = c .before in
     let a = f .before .before .before .args in
     let l = lettered-length 82 (a .number ∷ a .line ∷ []) in
@@ -30,7 +30,7 @@ slice-aggregate-write-lettered : tie.Need-slice-aggregate-write-lettered
 slice-aggregate-write-lettered c = search needs
 
 write-lettered-requires : tie.Need-write-lettered-requires
-write-lettered-requires c κs = 
+write-lettered-requires c κs =
     let f = c .before .before .before in
     let a = f .before .before .before .args in
     omega (arith, f .fields-length .ensures .0, lettered-length 82 (a .number ∷ a .line ∷ []), c .before .before .if1 .left)
@@ -40,7 +40,7 @@ same-length c = search needs
 
 returns-2 : tie.Need-returns-2
 unfolding refusalText
-returns-2 c = 
+returns-2 c =
     let w = c .before .before in
     let f = w .before .before .before .before in
     let a = f .before .before .before .args in
