@@ -28,3 +28,7 @@ mostRounds = 100
 
 abbrev pub mostWeight : ℕ
 mostWeight = 256
+
+-- samples that the program for small grids takes
+abbrev pub mostSmall : ℕ
+mostSmall = 512

@@ -17,3 +17,6 @@ pub const MOST_ROUNDS: u32 = 100;
 
 // The weight with which a point goes all the way to its neighbours' mean.
 pub const MOST_WEIGHT: u32 = 256;
+
+// Samples that the program for small grids takes.
+pub const MOST_SMALL: u32 = 512;

@@ -1,0 +1,54 @@
+-- `text::mesh_text::mesh_length` meets its contract. Assumes nothing.
+use mathlib.Core.Path.{_≡_, sym, _∙_}
+use Prim.Native.Nat.{_+_, _*_, _/_, _≤_}
+use native.Mathlib.Omega.{arith}
+use lib.ListN.{length}
+use Rattle.grid.specs.Limits.{mostPoints, mostTriangles}
+use Rattle.text.proofs.MeshTexts.{lists-fit, lines-of-length}
+use borrow.Author.Needs.{needs}
+use Rattle.text.proofs.mesh_text.mesh_length.Statement.{statement}
+use Rattle.text.proofs.mesh_text.mesh_length.Tie as tie
+
+abbrev begun : tie.After-fields-length → tie.Start
+begun c = c .before .before .before .before .before .before
+
+facts : (s : tie.Start) → (length (s .args .points .now) ≡ 3 * length (s .args .marks .now)) × (length (s .args .edges .now) ≡ length (s .args .marks .now)) × (length (s .args .marks .now) ≤ mostPoints) × (length (s .args .triangles .now) / 3 ≤ mostTriangles)
+facts s = lists-fit (length (s .args .points .now)) (length (s .args .edges .now)) (length (s .args .marks .now)) (length (s .args .triangles .now)) (s .pre .0)
+
+fields-length-requires : tie.Need-fields-length-requires
+fields-length-requires c κs = search needs
+
+add-head : tie.Need-add-head
+add-head c = search needs
+
+points-length-requires : tie.Need-points-length-requires
+points-length-requires c κs = omega (arith, facts (begun c))
+
+add-result : tie.Need-add-result
+add-result c = omega (arith, c .before .fields-length .ensures .1, c .points-length .ensures .1, facts (begun (c .before)), begun (c .before) .pre .1)
+
+triangles-length-requires : tie.Need-triangles-length-requires
+triangles-length-requires c κs = omega (arith, facts (begun (c .before)))
+
+add-result-2 : tie.Need-add-result-2
+add-result-2 c =
+    let f = c .before .before in
+    omega (arith, f .fields-length .ensures .1, c .before .points-length .ensures .1, c .triangles-length .ensures .1, facts (begun f), begun f .pre .1)
+
+returns : tie.Need-returns
+returns c =
+    let f = c .before .before in
+    let a = begun f .args in
+    omega (arith, f .fields-length .ensures .0, c .before .points-length .ensures .0, c .triangles-length .ensures .0, lines-of-length (a .counts .now) (a .points .now) (a .edges .now) (a .marks .now) (a .triangles .now))
+
+pub mesh-length-spec : {M : Type 1} → statement M
+mesh-length-spec =
+    tie.close
+    (tie.spec
+    fields-length-requires
+    add-head
+    points-length-requires
+    add-result
+    triangles-length-requires
+    add-result-2
+    returns)

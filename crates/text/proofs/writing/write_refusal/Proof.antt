@@ -1,0 +1,61 @@
+-- `text::writing::write_refusal` meets its contract: the length first, then the line. Assumes nothing.
+use mathlib.Core.Path.{_≡_, sym, _∙_}
+use mathlib.Core.List.{_∷_, []}
+use native.Mathlib.Omega.{arith}
+use lib.ListN.{length}
+use Rattle.text.specs.Writing.{lettered, refusalText}
+use Rattle.text.proofs.Written.{lettered-length, written-front, written-not}
+use borrow.Author.Needs.{needs}
+use Rattle.text.proofs.writing.write_refusal.Statement.{statement}
+use Rattle.text.proofs.writing.write_refusal.Tie as tie
+
+slice-aggregate-fields-length : tie.Need-slice-aggregate-fields-length
+slice-aggregate-fields-length c = search needs
+
+fields-length-requires : tie.Need-fields-length-requires
+fields-length-requires c κs = search needs
+
+add-length : tie.Need-add-length
+add-length c = omega (arith, c .fields-length .ensures .1)
+
+returns : tie.Need-returns
+unfolding refusalText
+returns c =
+    let f = c .before in
+    let a = f .before .before .before .args in
+    let l = lettered-length 82 (a .number ∷ a .line ∷ []) in
+    (omega (arith, f .fields-length .ensures .0, l), written-not (lettered 82 (a .number ∷ a .line ∷ [])) (a .room .now) (omega (arith, f .fields-length .ensures .0, l, c .if1 .taken)))
+
+slice-aggregate-write-lettered : tie.Need-slice-aggregate-write-lettered
+slice-aggregate-write-lettered c = search needs
+
+write-lettered-requires : tie.Need-write-lettered-requires
+write-lettered-requires c κs =
+    let f = c .before .before .before in
+    let a = f .before .before .before .args in
+    omega (arith, f .fields-length .ensures .0, lettered-length 82 (a .number ∷ a .line ∷ []), c .before .before .if1 .left)
+
+same-length : tie.Need-same-length
+same-length c = search needs
+
+returns-2 : tie.Need-returns-2
+unfolding refusalText
+returns-2 c =
+    let w = c .before .before in
+    let f = w .before .before .before .before in
+    let a = f .before .before .before .args in
+    let l = lettered-length 82 (a .number ∷ a .line ∷ []) in
+    (omega (arith, w .write-lettered .ensures .0), written-front (lettered 82 (a .number ∷ a .line ∷ [])) (a .room .now) (w .write-lettered .last .1 .1 .0) (omega (arith, f .fields-length .ensures .0, l, w .before .before .before .if1 .left)) (w .write-lettered .ensures .1))
+
+pub write-refusal-spec : {M : Type 1} → statement M
+write-refusal-spec =
+    tie.close
+    (tie.spec
+    slice-aggregate-fields-length
+    fields-length-requires
+    add-length
+    returns
+    slice-aggregate-write-lettered
+    write-lettered-requires
+    same-length
+    returns-2)

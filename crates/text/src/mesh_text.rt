@@ -1,0 +1,193 @@
+// The lines of a mesh: points and triangles, measured and written.
+ghost use mathlib.Core.Path.{_≡_};
+ghost use mathlib.Core.Bool.{true};
+ghost use Prim.Native.Nat.{_+_, _*_, _≤_, _<_};
+ghost use lib.ListN.{length};
+ghost use lib.Seq.{sets};
+ghost use Rattle.grid.specs.Limits.{mostPoints, mostTriangles};
+ghost use Rattle.text.specs.MeshText.{pointNumbers, pointsText, triangleNumbers, trianglesText, linesOf, listsFit, outcome, meshWritten};
+use crate::writing::fields_length;
+use crate::writing::write_lettered;
+use grid::limits::MOST_POINTS;
+use grid::limits::MOST_TRIANGLES;
+
+// Number 0 and the length of the text if granted, else the refusal's number and 0.
+pub struct Written {
+    pub number: u32,
+    pub length: usize,
+}
+
+// The numbers of a point's line.
+fn point_numbers(points: &[u32], edges: &[u32], marks: &[u8], i: usize) -> [u32; 5]
+    requires { ⌜ (3 * i + 2 < length (now points)) × (i < length (now edges)) × (i < length (now marks)) ⌝ }
+    ensures { λ r. ⌜ r ≡ pointNumbers (now (points .entry)) (now (edges .entry)) (now (marks .entry)) i ⌝ }
+{
+    let at = 3 * i;
+    [
+        edges[i],
+        points[at],
+        points[at + 1],
+        points[at + 2],
+        marks[i] as u32,
+    ]
+}
+
+// How many bytes the lines of the first `v` points take.
+fn points_length(points: &[u32], edges: &[u32], marks: &[u8], v: usize) -> usize
+    requires { ⌜ (3 * v ≤ length (now points)) × (v ≤ length (now edges)) × (v ≤ length (now marks)) × (v ≤ mostPoints) ⌝ }
+    ensures length { λ r. ⌜ r ≡ length (pointsText (now (points .entry)) (now (edges .entry)) (now (marks .entry)) v) ⌝ }
+    ensures small { λ r. ⌜ r ≤ 107 * v ⌝ }
+{
+    let mut sum = 0;
+    let mut i = 0;
+    while i < v {
+        let numbers = point_numbers(points, edges, marks, i);
+        sum += 2 + fields_length(&numbers);
+        i += 1;
+    }
+    sum
+}
+
+// Writes the lines of the first `v` points, and answers the place behind them.
+fn write_points(
+    points: &[u32],
+    edges: &[u32],
+    marks: &[u8],
+    v: usize,
+    room: &mut [u8],
+    from: usize,
+) -> usize
+    requires { ⌜ (3 * v ≤ length (now points)) × (v ≤ length (now edges)) × (v ≤ length (now marks)) × (v ≤ mostPoints) ⌝ }
+    requires { ⌜ from + length (pointsText (now points) (now edges) (now marks) v) ≤ length (now room) ⌝ }
+    ensures place { λ r. ⌜ r ≡ from + length (pointsText (now (points .entry)) (now (edges .entry)) (now (marks .entry)) v) ⌝ }
+    ensures text { λ _. ⌜ now (room .exit) ≡ sets (now (room .entry)) from (pointsText (now (points .entry)) (now (edges .entry)) (now (marks .entry)) v) ⌝ }
+{
+    let mut at = from;
+    let mut i = 0;
+    while i < v {
+        let numbers = point_numbers(points, edges, marks, i);
+        at = write_lettered(b'V', &numbers, room, at);
+        i += 1;
+    }
+    at
+}
+
+// The numbers of a triangle's line.
+fn triangle_numbers(triangles: &[u32], i: usize) -> [u32; 3]
+    requires { ⌜ 3 * i + 2 < length (now triangles) ⌝ }
+    ensures { λ r. ⌜ r ≡ triangleNumbers (now (triangles .entry)) i ⌝ }
+{
+    let at = 3 * i;
+    [triangles[at], triangles[at + 1], triangles[at + 2]]
+}
+
+// How many bytes the lines of the first `t` triangles take.
+fn triangles_length(triangles: &[u32], t: usize) -> usize
+    requires { ⌜ (3 * t ≤ length (now triangles)) × (t ≤ mostTriangles) ⌝ }
+    ensures length { λ r. ⌜ r ≡ length (trianglesText (now (triangles .entry)) t) ⌝ }
+    ensures small { λ r. ⌜ r ≤ 65 * t ⌝ }
+{
+    let mut sum = 0;
+    let mut i = 0;
+    while i < t {
+        let numbers = triangle_numbers(triangles, i);
+        sum += 2 + fields_length(&numbers);
+        i += 1;
+    }
+    sum
+}
+
+// Writes the lines of the first `t` triangles, and answers the place behind them.
+fn write_triangles(triangles: &[u32], t: usize, room: &mut [u8], from: usize) -> usize
+    requires { ⌜ (3 * t ≤ length (now triangles)) × (t ≤ mostTriangles) ⌝ }
+    requires { ⌜ from + length (trianglesText (now triangles) t) ≤ length (now room) ⌝ }
+    ensures place { λ r. ⌜ r ≡ from + length (trianglesText (now (triangles .entry)) t) ⌝ }
+    ensures text { λ _. ⌜ now (room .exit) ≡ sets (now (room .entry)) from (trianglesText (now (triangles .entry)) t) ⌝ }
+{
+    let mut at = from;
+    let mut i = 0;
+    while i < t {
+        let numbers = triangle_numbers(triangles, i);
+        at = write_lettered(b'T', &numbers, room, at);
+        i += 1;
+    }
+    at
+}
+
+fn lists_fit(points: usize, edges: usize, v: usize, triangles: usize) -> bool
+    ensures { λ r. ⌜ r ≡ listsFit points edges v triangles ⌝ }
+{
+    if v > (MOST_POINTS as usize) {
+        return false;
+    }
+    if points != 3 * v {
+        return false;
+    }
+    if edges != v {
+        return false;
+    }
+    if triangles % 3 != 0 {
+        return false;
+    }
+    triangles / 3 <= MOST_TRIANGLES as usize
+}
+
+// The length of a mesh's text.
+fn mesh_length(
+    counts: &[u32],
+    points: &[u32],
+    edges: &[u32],
+    marks: &[u8],
+    triangles: &[u32],
+) -> usize
+    requires { ⌜ listsFit (length (now points)) (length (now edges)) (length (now marks)) (length (now triangles)) ≡ true ⌝ }
+    requires { ⌜ length (now counts) ≡ 3 ⌝ }
+    ensures { λ r. ⌜ r ≡ length (linesOf (now (counts .entry)) (now (points .entry)) (now (edges .entry)) (now (marks .entry)) (now (triangles .entry))) ⌝ }
+{
+    let head = 2 + fields_length(counts);
+    let middle = points_length(points, edges, marks, marks.len());
+    head + middle + triangles_length(triangles, triangles.len() / 3)
+}
+
+// Writes a mesh's text to the front of a room that holds it.
+fn write_lines(
+    counts: &[u32],
+    points: &[u32],
+    edges: &[u32],
+    marks: &[u8],
+    triangles: &[u32],
+    room: &mut [u8],
+)
+    requires { ⌜ listsFit (length (now points)) (length (now edges)) (length (now marks)) (length (now triangles)) ≡ true ⌝ }
+    requires { ⌜ length (linesOf (now counts) (now points) (now edges) (now marks) (now triangles)) ≤ length (now room) ⌝ }
+    ensures { λ _. ⌜ now (room .exit) ≡ sets (now (room .entry)) 0 (linesOf (now (counts .entry)) (now (points .entry)) (now (edges .entry)) (now (marks .entry)) (now (triangles .entry))) ⌝ }
+{
+    let behind_counts = write_lettered(b'M', counts, room, 0);
+    let behind_points = write_points(points, edges, marks, marks.len(), room, behind_counts);
+    write_triangles(triangles, triangles.len() / 3, room, behind_points);
+}
+
+// Writes the M, V and T lines of a mesh to the front of the room, and answers their length; a room that is too short stays. A refusal, 6, leaves it too.
+pub fn write_mesh(
+    shells: u32,
+    points: &[u32],
+    edges: &[u32],
+    marks: &[u8],
+    triangles: &[u32],
+    room: &mut [u8],
+) -> Written
+    ensures { λ r. ⌜ outcome (r .number) (r .length) (now (room .exit)) ≡ meshWritten shells (now (points .entry)) (now (edges .entry)) (now (marks .entry)) (now (triangles .entry)) (now (room .entry)) ⌝ }
+{
+    if !lists_fit(points.len(), edges.len(), marks.len(), triangles.len()) {
+        return Written {
+            number: 6,
+            length: 0,
+        };
+    }
+    let counts = [marks.len() as u32, (triangles.len() / 3) as u32, shells];
+    let length = mesh_length(&counts, points, edges, marks, triangles);
+    if length <= room.len() {
+        write_lines(&counts, points, edges, marks, triangles, room);
+    }
+    Written { number: 0, length }
+}
