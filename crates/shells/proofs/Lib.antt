@@ -12,6 +12,7 @@ pub mod OneOutcome
 pub mod OneNumber
 pub mod Totals
 pub mod Lows
+pub mod Few
 pub mod Figures
 -- How large volumes are; records that grow become those of the shells; how the call ends.
 pub mod Sizes

@@ -3,8 +3,10 @@ ghost use Rattle.cube.specs.Promise.{Counted, EdgeRead};
 ghost use Rattle.extract.specs.Promise.{rooms, left, Extracts};
 ghost use Rattle.smooth.specs.Promise.{Smooths, Shows};
 ghost use Rattle.curvature.specs.Promise.{left as curvesLeft, Curves, Tells};
+ghost use Rattle.shells.specs.Promise.{left as shellsLeft, Shells};
 ghost use mathlib.Core.List.{[], _∷_};
 use curvature::Reading;
+use shells::Shell;
 
 // How many triangles a case has: 0 to 5.
 #[no_mangle]
@@ -145,4 +147,23 @@ pub extern "C" fn tholbrina_answer(
             0
         }
     }
+}
+
+// The shell number of every point and one record a shell, into lent rooms. Answers 0 if granted, else the refusal's number; the count of shells is 0
+// after a refusal.
+#[no_mangle]
+pub extern "C" fn tholbrina_shells(
+    points: &[u32],
+    triangles: &[u32],
+    marks: &[u8],
+    numbers: &mut [u32],
+    records: &mut [Shell],
+    work: &mut [u32],
+    shell_count: &mut u32,
+) -> u32
+    ensures { λ r. ⌜ Shells (now (points .entry)) (now (triangles .entry)) (now (marks .entry)) (now (numbers .entry)) (now (work .entry)) (now (records .entry)) (shellsLeft r (now («shell_count» .exit)) (now (numbers .exit)) (now (work .exit))) (now (records .exit)) ⌝ }
+{
+    let listed = shells::shells(points, triangles, marks, numbers, records, work);
+    *shell_count = listed.shells as u32;
+    listed.number
 }
