@@ -1,5 +1,5 @@
 # make test   proves every crate from nothing, tries the must-fail edits, and runs the tests from outside
-# make run    runs the library on a worked example
+# make run    lists the voids of the example casting
 # make bench  times the library, on an x86-64 machine
 
 SHELL := bash
@@ -17,11 +17,12 @@ test:
 	grep -Eqx '[0-9]+ passed, 0 failed' <<<"$$verdict"
 	rt staticlib viewer
 	tools/cargo test --quiet --manifest-path host/Cargo.toml
+	tools/example
 	echo "$$verdict"
 
 run:
 	@rt staticlib viewer >/dev/null
-	tools/cargo run --quiet --manifest-path host/Cargo.toml --package viewer --example cases
+	tools/cargo run --quiet --manifest-path host/Cargo.toml --package tholbrina -- list examples/casting.txt
 
 bench:
 	@tools/bench

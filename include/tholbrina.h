@@ -79,6 +79,34 @@ uint32_t tholbrina_show(const uint32_t *raw, size_t raw_len,
                         uint32_t second, uint32_t point,
                         uint32_t *x, uint32_t *y, uint32_t *z);
 
+/* A shell: its lowest point, how many points and triangles it has, whether it touches an outer face (1 if any of its points is marked, else 0), and
+ * six times its volume in units of (1/256 of a voxel) cubed, a signed whole number: a void inside metal counts negative. */
+typedef struct tholbrina_shell {
+  uint32_t low, points, triangles, touches;
+  int64_t volume;
+} tholbrina_shell;
+
+/* The length of the work room for the shells of so many points. */
+static inline size_t tholbrina_shells_work(size_t points) {
+  return 2 * points;
+}
+
+/* The shells of a mesh. V is marks_len. Two points are in one shell exactly when triangle sides lead from one to the other; a point in no triangle is a
+ * shell by itself. Shells are numbered from 0 in rising order of their lowest point: numbers gets each point's shell, and record n is shell n. Records
+ * past the last stay. *shell_count says how many there are, and is 0 after a refusal.
+ *
+ * Refusals, in this order: 6, 7, 8, 9 as for tholbrina_smooth, then
+ *   3   numbers_len is not V, or work_len is not 2V
+ *   11  there are more shells than records_len
+ * 6 to 9 and 3 leave all rooms as they were; 11 leaves numbers and records, and the work room all zero, and so does a granted call. */
+uint32_t tholbrina_shells(const uint32_t *points, size_t points_len,
+                          const uint32_t *triangles, size_t triangles_len,
+                          const uint8_t *marks, size_t marks_len,
+                          uint32_t *numbers, size_t numbers_len,
+                          tholbrina_shell *records, size_t records_len,
+                          uint32_t *work, size_t work_len,
+                          uint32_t *shell_count);
+
 /* Corner areas and mean curvature of a mesh. V is marks_len. areas has one number a point, vectors three; both in units of 1/256 of a voxel.
  * A point's vector is +0.0 where its mark is 1 or its area 0. There is no work room.
  *

@@ -173,6 +173,80 @@ fn smoothing(mesh: viewer::Mesh<'_>, rounds: u32, times: &BTreeMap<String, f64>)
     );
 }
 
+const NO_SHELL: viewer::Shell = viewer::Shell {
+    low: 0,
+    points: 0,
+    triangles: 0,
+    touches: 0,
+    volume: 0,
+};
+
+/// The median times of the library and of the reference.
+fn shell_times(mesh: viewer::Mesh<'_>) -> (f64, f64) {
+    let runs = RUNS.div_ceil(10);
+    let count = mesh.marks.len();
+    let (mut numbers, mut work) = (vec![1; count], vec![1; 2 * count]);
+    let mut records = vec![NO_SHELL; count];
+    let proved = median(runs, || {
+        let listed = viewer::shells(mesh, &mut numbers, &mut records, &mut work);
+        assert_eq!(listed.number, 0);
+    });
+    let none = reference::shells::Shell {
+        low: 0,
+        points: 0,
+        triangles: 0,
+        touches: 0,
+        volume: 0,
+    };
+    let mut plain_records = vec![none; count];
+    let plain = median(runs, || {
+        reference::shells::shells(
+            mesh.points,
+            mesh.triangles,
+            mesh.marks,
+            &mut numbers,
+            &mut plain_records,
+            &mut work,
+        );
+    });
+    (proved, plain)
+}
+
+fn shells(mesh: viewer::Mesh<'_>, times: &BTreeMap<String, f64>) {
+    let (proved, plain) = shell_times(mesh);
+    let name = "vtkPolyDataConnectivityFilter";
+    say(
+        "Shells",
+        proved,
+        plain,
+        ("triangle", mesh.triangles.len() / 3),
+        &[(name, times.get(name).copied())],
+    );
+}
+
+/// A chain of 250,000 points joined from its far end, the worst for a union that follows long paths.
+fn chain() {
+    let count = 250_000u32;
+    let triangles: Vec<u32> = (0..count - 2)
+        .rev()
+        .flat_map(|i| [i + 2, i + 1, i])
+        .collect();
+    let mesh = viewer::Mesh {
+        points: &vec![7; 3 * count as usize],
+        triangles: &triangles,
+        marks: &vec![0; count as usize],
+    };
+    let (proved, plain) = shell_times(mesh);
+    println!("A chain of 250,000 points joined from its far end.");
+    say(
+        "Shells",
+        proved,
+        plain,
+        ("triangle", triangles.len() / 3),
+        &[],
+    );
+}
+
 fn curvature(mesh: viewer::Mesh<'_>, times: &BTreeMap<String, f64>) {
     let runs = RUNS.div_ceil(10);
     let mut areas = vec![1.0; mesh.marks.len()];
@@ -199,6 +273,52 @@ fn curvature(mesh: viewer::Mesh<'_>, times: &BTreeMap<String, f64>) {
     );
 }
 
+/// A ball of metal in the middle of the grid, whose samples fall evenly through the grey value at its surface.
+fn ball(radius: f64) -> Vec<u16> {
+    (0..64 * 64 * 64)
+        .map(|s| {
+            let place = [s % 64, s / 64 % 64, s / 4096].map(|at| f64::from(at) - 31.5);
+            let distance = place.iter().map(|d| d * d).sum::<f64>().sqrt();
+            (f64::from(GREY) + 100.0 * (radius - distance)).clamp(0.0, 65_535.0) as u16
+        })
+        .collect()
+}
+
+/// The mean over all points of the size of the mean curvature, a voxel.
+fn mean_curvature(surface: &viewer::Surface) -> Result<f64, Failure> {
+    let sizes: Vec<f64> = surface
+        .answers()?
+        .iter()
+        .map(|answer| match answer {
+            viewer::Answer::Bent(_, vector) => {
+                256.0 * vector.iter().map(|x| x * x).sum::<f64>().sqrt()
+            }
+            _ => 0.0,
+        })
+        .collect();
+    Ok(sizes.iter().sum::<f64>() / sizes.len() as f64)
+}
+
+/// How far the mean curvature of balls lies from 1/r, raw and after ten rounds.
+fn balls(program: Option<&String>) -> Result<(), Failure> {
+    for radius in [10.0, 20.0, 28.0] {
+        let samples = ball(radius);
+        let raw = viewer::Surface::extract(SIDES, GREY, &samples)?;
+        let smoothed = raw.smooth(10, WEIGHT)?;
+        println!(
+            "A ball of radius {radius}: 1/r is {:.4}; the mean curvature is on average {:.4} raw and {:.4} after ten rounds.",
+            1.0 / radius,
+            mean_curvature(&raw)?,
+            mean_curvature(&smoothed)?
+        );
+        if let Some(program) = program {
+            let found = vtk(program, &samples)?;
+            println!("  vtkCurvatures on its own raw mesh: {:.4}.", found["mean"]);
+        }
+    }
+    Ok(())
+}
+
 fn main() -> Result<(), Failure> {
     let program = std::env::args().nth(1);
     let mut rooms = Rooms::new();
@@ -223,7 +343,9 @@ fn main() -> Result<(), Failure> {
         for rounds in [10, 100] {
             smoothing(mesh, rounds, &times);
         }
+        shells(mesh, &times);
         curvature(mesh, &times);
     }
-    Ok(())
+    chain();
+    balls(program.as_ref())
 }

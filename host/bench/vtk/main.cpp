@@ -1,16 +1,20 @@
 // vtk_bench FILE GREY RUNS: the median milliseconds of VTK's filters on one thread, a line each with the filter's name, on a volume of 64 samples
 // a side. Points and triangles only, as the library gives them: no normals, gradients or scalars. The filters on a mesh take vtkFlyingEdges3D's.
 #include <vtkCurvatures.h>
+#include <vtkDataArray.h>
 #include <vtkFlyingEdges3D.h>
 #include <vtkImageData.h>
 #include <vtkMarchingCubes.h>
 #include <vtkNew.h>
+#include <vtkPointData.h>
 #include <vtkPolyData.h>
+#include <vtkPolyDataConnectivityFilter.h>
 #include <vtkSMPTools.h>
 #include <vtkSmoothPolyDataFilter.h>
 
 #include <algorithm>
 #include <chrono>
+#include <cmath>
 #include <cstdint>
 #include <cstdio>
 #include <cstdlib>
@@ -49,11 +53,33 @@ static void smooth(const char *name, vtkPolyData *mesh, int rounds, int runs) {
   median(name, filter.Get(), runs);
 }
 
+// Every region numbered; no volumes, which the library's list has.
+static void connectivity(vtkPolyData *mesh, int runs) {
+  vtkNew<vtkPolyDataConnectivityFilter> filter;
+  filter->SetInputData(mesh);
+  filter->SetExtractionModeToAllRegions();
+  filter->ColorRegionsOn();
+  median("vtkPolyDataConnectivityFilter", filter.Get(), runs);
+}
+
 static void curvatures(vtkPolyData *mesh, int runs) {
   vtkNew<vtkCurvatures> filter;
   filter->SetInputData(mesh);
   filter->SetCurvatureTypeToMean();
   median("vtkCurvatures", filter.Get(), runs);
+}
+
+// The mean over all points of the size of the mean curvature, a voxel.
+static void mean(const char *name, vtkPolyData *mesh) {
+  vtkNew<vtkCurvatures> filter;
+  filter->SetInputData(mesh);
+  filter->SetCurvatureTypeToMean();
+  filter->Update();
+  vtkDataArray *found = filter->GetOutput()->GetPointData()->GetArray("Mean_Curvature");
+  double sum = 0;
+  for (vtkIdType i = 0; i < found->GetNumberOfTuples(); i++)
+    sum += std::fabs(found->GetTuple1(i));
+  std::printf("%s %f\n", name, sum / static_cast<double>(found->GetNumberOfTuples()));
 }
 
 int main(int argc, char **argv) {
@@ -79,6 +105,8 @@ int main(int argc, char **argv) {
   int fewer = (runs + 9) / 10;
   smooth("vtkSmoothPolyDataFilter,10", edges->GetOutput(), 10, fewer);
   smooth("vtkSmoothPolyDataFilter,100", edges->GetOutput(), 100, fewer);
+  connectivity(edges->GetOutput(), fewer);
   curvatures(edges->GetOutput(), fewer);
+  mean("mean", edges->GetOutput());
   return 0;
 }

@@ -1,7 +1,11 @@
 //! The C declarations of crate `viewer`, and the only unsafe code. Nothing checks a declaration against its Rattle source, so each is held to
 //! it by the tests that compare the two sides.
 
+use crate::Shell;
+
 mod declared {
+    use crate::Shell;
+
     unsafe extern "C" {
         pub fn tholbrina_case_count(case: u8) -> u8;
         pub fn tholbrina_case_edge(case: u8, place: u32) -> u8;
@@ -49,6 +53,21 @@ mod declared {
             x: *mut u32,
             y: *mut u32,
             z: *mut u32,
+        ) -> u32;
+        pub fn tholbrina_shells(
+            points: *const u32,
+            points_len: usize,
+            triangles: *const u32,
+            triangles_len: usize,
+            marks: *const u8,
+            marks_len: usize,
+            numbers: *mut u32,
+            numbers_len: usize,
+            records: *mut Shell,
+            records_len: usize,
+            work: *mut u32,
+            work_len: usize,
+            shell_count: *mut u32,
         ) -> u32;
         pub fn tholbrina_curvature(
             points: *const u32,
@@ -174,6 +193,37 @@ pub fn show(
             x,
             y,
             z,
+        )
+    }
+}
+
+#[allow(clippy::too_many_arguments)]
+pub fn shells(
+    points: &[u32],
+    triangles: &[u32],
+    marks: &[u8],
+    numbers: &mut [u32],
+    records: &mut [Shell],
+    work: &mut [u32],
+    shell_count: &mut u32,
+) -> u32 {
+    // SAFETY: each slice is lent for the call with its own length, the mutable ones are all different, a record is laid out as in C, and the
+    // function has no requirement.
+    unsafe {
+        declared::tholbrina_shells(
+            points.as_ptr(),
+            points.len(),
+            triangles.as_ptr(),
+            triangles.len(),
+            marks.as_ptr(),
+            marks.len(),
+            numbers.as_mut_ptr(),
+            numbers.len(),
+            records.as_mut_ptr(),
+            records.len(),
+            work.as_mut_ptr(),
+            work.len(),
+            shell_count,
         )
     }
 }

@@ -2,6 +2,9 @@
 
 #[allow(unsafe_code)]
 mod c;
+mod owned;
+
+pub use owned::{Answer, Refusal, Shells, Surface};
 
 /// How many triangles a case of the cube has: 0 to 5.
 pub fn case_count(case: u8) -> u8 {
@@ -85,6 +88,46 @@ pub fn smooth(
 /// number, and the place stays.
 pub fn show(raw: &[u32], smoothed: &[u32], second: u32, point: u32, place: &mut [u32; 3]) -> u32 {
     c::show(raw, smoothed, second, point, place)
+}
+
+/// A shell's record, laid out as the library has it: lowest point, points, triangles, whether it touches an outer face (1 or 0), and six times
+/// its volume in cubes of 1/256 of a voxel, negative for a void inside metal.
+#[repr(C)]
+#[derive(Clone, Copy, PartialEq, Eq, Debug)]
+pub struct Shell {
+    pub low: u32,
+    pub points: u32,
+    pub triangles: u32,
+    pub touches: u32,
+    pub volume: i64,
+}
+
+/// What the shell list answers: number 0 and the count of shells if granted, else the refusal's number and count 0.
+#[derive(Clone, Copy, PartialEq, Eq, Debug)]
+pub struct Listed {
+    pub number: u32,
+    pub shells: u32,
+}
+
+/// The shells of a mesh: each point's shell number into `numbers`, of length V, and a record a shell from the front of `records`, with a work
+/// room of exactly 2V numbers.
+pub fn shells(
+    mesh: Mesh<'_>,
+    numbers: &mut [u32],
+    records: &mut [Shell],
+    work: &mut [u32],
+) -> Listed {
+    let mut shells = 0;
+    let number = c::shells(
+        mesh.points,
+        mesh.triangles,
+        mesh.marks,
+        numbers,
+        records,
+        work,
+        &mut shells,
+    );
+    Listed { number, shells }
 }
 
 /// Corner areas, one a point, and mean curvature vectors, three numbers a point, into lent rooms of exactly those lengths. Answers 0 if granted,

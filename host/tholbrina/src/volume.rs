@@ -1,0 +1,113 @@
+//! A volume from a file or from standard input: plain samples, or the text of a grid as the program for small grids has it, of any size.
+
+use std::io::Read;
+
+use crate::asked::Asked;
+use crate::refused;
+use viewer::Refusal;
+
+pub struct Volume {
+    pub sides: [u32; 3],
+    pub grey: u16,
+    pub rounds: u32,
+    pub weight: u32,
+    pub samples: Vec<u16>,
+}
+
+pub fn read(asked: &Asked, standard_input: &mut dyn Read) -> Result<Volume, String> {
+    let bytes = bytes(&asked.volume, standard_input)?;
+    let mut volume = match asked.plain {
+        Some((sides, grey)) => plain(sides, grey, &bytes)?,
+        None => text(&bytes)?,
+    };
+    volume.rounds = asked.rounds.unwrap_or(volume.rounds);
+    volume.weight = asked.weight.unwrap_or(volume.weight);
+    Ok(volume)
+}
+
+fn bytes(name: &str, standard_input: &mut dyn Read) -> Result<Vec<u8>, String> {
+    if name == "-" {
+        let mut bytes = Vec::new();
+        standard_input
+            .read_to_end(&mut bytes)
+            .map_err(|error| format!("Standard input cannot be read: {error}."))?;
+        return Ok(bytes);
+    }
+    std::fs::read(name).map_err(|error| format!("{name} cannot be read: {error}."))
+}
+
+fn plain(sides: [u32; 3], grey: u16, bytes: &[u8]) -> Result<Volume, String> {
+    let [nx, ny, nz] = sides;
+    let count = u128::from(nx) * u128::from(ny) * u128::from(nz);
+    let too_far = sides.iter().any(|side| !(2..=64).contains(side));
+    if !too_far && 2 * count != bytes.len() as u128 {
+        return Err(format!(
+            "Refused with number 2: {}; the volume has {} bytes, and {nx} by {ny} by {nz} samples of two bytes are {}.",
+            Refusal::Samples.words(),
+            bytes.len(),
+            2 * count
+        ));
+    }
+    let samples = bytes
+        .chunks_exact(2)
+        .map(|pair| u16::from_le_bytes([pair[0], pair[1]]))
+        .collect();
+    Ok(Volume {
+        sides,
+        grey,
+        rounds: 0,
+        weight: 0,
+        samples,
+    })
+}
+
+/// A whole number of at most 65,535 with no sign and no needless zero.
+fn number(field: &str) -> Option<u16> {
+    let plain = field.bytes().all(|byte| byte.is_ascii_digit());
+    let needless = field.len() > 1 && field.starts_with('0');
+    field.parse().ok().filter(|_| plain && !needless)
+}
+
+fn numbers(line: &str) -> Option<Vec<u16>> {
+    line.split('\t').map(number).collect()
+}
+
+fn malformed(line: usize) -> String {
+    format!("{} It is line {line}.", refused(Refusal::Line))
+}
+
+fn text(bytes: &[u8]) -> Result<Volume, String> {
+    let text = String::from_utf8_lossy(bytes);
+    let mut lines = text
+        .split_inclusive('\n')
+        .map(|line| line.strip_suffix('\n'));
+    let mut next = |at: usize| lines.next().flatten().ok_or_else(|| malformed(at));
+    let head = next(1)?;
+    let fields = head
+        .strip_prefix("G\t")
+        .and_then(numbers)
+        .filter(|fields| fields.len() == 6)
+        .ok_or_else(|| malformed(1))?;
+    let sides = [fields[0], fields[1], fields[2]].map(u32::from);
+    let [nx, ny, nz] = sides.map(|side| side as usize);
+    if sides.iter().any(|side| !(2..=64).contains(side)) {
+        return Err(refused(Refusal::Sides));
+    }
+    let mut samples = Vec::with_capacity(nx * ny * nz);
+    for row in 0..ny * nz {
+        let fields = numbers(next(row + 2)?)
+            .filter(|fields| fields.len() == nx)
+            .ok_or_else(|| malformed(row + 2))?;
+        samples.extend(fields);
+    }
+    if lines.next().is_some() {
+        return Err(malformed(ny * nz + 2));
+    }
+    Ok(Volume {
+        sides,
+        grey: fields[3],
+        rounds: fields[4].into(),
+        weight: fields[5].into(),
+        samples,
+    })
+}

@@ -1,0 +1,288 @@
+//! Shells against the reference: the answer, and every place of the three rooms.
+
+mod tools;
+
+use tools::{extracted, guard, Caller, Seed};
+use viewer::Shell;
+
+/// Records that hold something before the call, a different one at each place.
+fn held(length: usize) -> Vec<Shell> {
+    (0..length as u32)
+        .map(|i| Shell {
+            low: 0xa5a5_0001 ^ i,
+            points: 0x5a5a_0003 ^ i,
+            triangles: 0xdead_0005 ^ i,
+            touches: 0xbeef_0007 ^ i,
+            volume: -0x0123_4567_89ab - i64::from(i),
+        })
+        .collect()
+}
+
+fn plain(shell: &Shell) -> reference::shells::Shell {
+    reference::shells::Shell {
+        low: shell.low,
+        points: shell.points,
+        triangles: shell.triangles,
+        touches: shell.touches,
+        volume: shell.volume,
+    }
+}
+
+/// One call on both sides with rooms of these lengths; answers number, count, shell numbers and records.
+fn same_in(
+    mesh: &Caller,
+    numbers: usize,
+    records: usize,
+    work: usize,
+) -> (u32, u32, Vec<u32>, Vec<Shell>) {
+    let (held_numbers, held_work, held_records) = (
+        guard(0xa5a5_0001, numbers),
+        guard(0xbeef_0007, work),
+        held(records),
+    );
+    let (mut proved_numbers, mut plain_numbers) = (held_numbers.clone(), held_numbers.clone());
+    let (mut proved_work, mut plain_work) = (held_work.clone(), held_work.clone());
+    let mut proved = held_records.clone();
+    let mut expected_records: Vec<_> = proved.iter().map(plain).collect();
+    let found = viewer::shells(
+        mesh.lent(),
+        &mut proved_numbers,
+        &mut proved,
+        &mut proved_work,
+    );
+    let expected = reference::shells::shells(
+        &mesh.points,
+        &mesh.triangles,
+        &mesh.marks,
+        &mut plain_numbers,
+        &mut expected_records,
+        &mut plain_work,
+    );
+    assert_eq!(
+        (found.number, found.shells),
+        (expected.number, expected.shells)
+    );
+    assert_eq!(proved_numbers, plain_numbers);
+    assert_eq!(
+        proved.iter().map(plain).collect::<Vec<_>>(),
+        expected_records
+    );
+    assert_eq!(proved_work, plain_work);
+    if found.number != 0 {
+        assert_eq!(found.shells, 0);
+        assert_eq!((&proved_numbers, &proved), (&held_numbers, &held_records));
+    }
+    if found.number == 0 || found.number == 11 {
+        assert!(proved_work.iter().all(|&n| n == 0));
+    } else {
+        assert_eq!(proved_work, held_work);
+    }
+    (found.number, found.shells, proved_numbers, proved)
+}
+
+/// A granted call with records to spare, and the same with just enough, one too few and none.
+fn same(mesh: &Caller) -> (u32, Vec<u32>, Vec<Shell>) {
+    let v = mesh.marks.len();
+    let (number, count, numbers, records) = same_in(mesh, v, v + 3, 2 * v);
+    assert_eq!(number, 0);
+    let shells = count as usize;
+    assert_eq!(same_in(mesh, v, shells, 2 * v).0, 0);
+    if shells > 0 {
+        assert_eq!(same_in(mesh, v, shells - 1, 2 * v).0, 11);
+        assert_eq!(same_in(mesh, v, 0, 2 * v).0, 11);
+    }
+    let total = |field: fn(&Shell) -> u32| -> usize {
+        records[..shells].iter().map(|s| field(s) as usize).sum()
+    };
+    assert_eq!(total(|s| s.points), v);
+    assert_eq!(total(|s| s.triangles), mesh.triangles.len() / 3);
+    (count, numbers, records)
+}
+
+#[test]
+fn the_figure_of_document_01() {
+    let mut samples = vec![0; 27];
+    samples[13] = 100;
+    let (count, numbers, records) = same(&tools::mesh_of([3, 3, 3], 50, &samples));
+    assert_eq!((count, numbers), (1, vec![0; 6]));
+    let only = &records[0];
+    assert_eq!(
+        (
+            only.low,
+            only.points,
+            only.triangles,
+            only.touches,
+            only.volume
+        ),
+        (0, 6, 8, 0, 16_777_216)
+    );
+}
+
+#[test]
+fn extracted_meshes() {
+    let mut seed = Seed::new(41);
+    for sides in [[4, 4, 4], [7, 5, 6], [2, 9, 3], [16, 12, 14]] {
+        for bound in [2, 20, 65_536] {
+            same(&extracted(&mut seed, sides, bound));
+        }
+    }
+}
+
+/// A block of metal with voids of one sample each, none beside another.
+#[test]
+fn castings_with_a_known_number_of_voids() {
+    for side in [5u32, 9, 17, 33] {
+        let mut samples = vec![1000; (side * side * side) as usize];
+        let mut voids = 0;
+        for z in (2..side - 1).step_by(3) {
+            for y in (2..side - 1).step_by(3) {
+                for x in (2..side - 1).step_by(3) {
+                    samples[(x + side * (y + side * z)) as usize] = 0;
+                    voids += 1;
+                }
+            }
+        }
+        let (count, _, records) = same(&tools::mesh_of([side; 3], 500, &samples));
+        assert_eq!(count, voids);
+        assert!(records[..voids as usize]
+            .iter()
+            .all(|s| s.touches == 0 && s.volume < 0));
+    }
+}
+
+fn placed(seed: &mut Seed, count: usize, triangles: Vec<u32>) -> Caller {
+    Caller {
+        points: (0..3 * count).map(|_| seed.below(16_129) as u32).collect(),
+        triangles,
+        marks: (0..count).map(|_| (seed.below(50) == 0) as u8).collect(),
+    }
+}
+
+fn shuffled(seed: &mut Seed, mut triples: Vec<[u32; 3]>) -> Vec<u32> {
+    for i in (1..triples.len()).rev() {
+        triples.swap(i, seed.below(i as u64 + 1) as usize);
+    }
+    triples.concat()
+}
+
+/// Long chains, joined in rising, falling and shuffled order: one shell each.
+#[test]
+fn chains() {
+    let mut seed = Seed::new(42);
+    let count = 100_000u32;
+    let links: Vec<[u32; 3]> = (0..count - 2).map(|i| [i, i + 1, i + 2]).collect();
+    let falling: Vec<[u32; 3]> = links.iter().rev().copied().collect();
+    let ends: Vec<[u32; 3]> = (1..count - 1)
+        .map(|i| [count - 1 - i, count - i, 0])
+        .collect();
+    for triples in [
+        links.concat(),
+        falling.concat(),
+        shuffled(&mut seed, links),
+        ends.concat(),
+    ] {
+        let mesh = placed(&mut seed, count as usize, triples);
+        let v = mesh.marks.len();
+        let (number, shells, numbers, _) = same_in(&mesh, v, 1, 2 * v);
+        assert_eq!((number, shells), (0, 1));
+        assert!(numbers.iter().all(|&n| n == 0));
+    }
+}
+
+#[test]
+fn meshes_made_by_hand() {
+    let mut seed = Seed::new(43);
+    let fan = (1..=1000).flat_map(|i| [0, i, i + 1]).collect();
+    for (count, triangles) in [
+        (3, vec![0, 1, 2]),
+        (6, vec![0, 1, 2, 1, 0, 3, 0, 1, 4, 1, 0, 5]),
+        (1002, fan),
+        (9, vec![7, 2, 4]),
+        (9, vec![8, 7, 6, 5, 4, 3, 2, 1, 0]),
+        (7, vec![6, 5, 4, 3, 2, 6]),
+        (500, vec![]),
+        (0, vec![]),
+    ] {
+        same(&placed(&mut seed, count, triangles));
+    }
+}
+
+#[test]
+fn made_up_triangles() {
+    let mut seed = Seed::new(44);
+    for count in [3u64, 10, 60, 2000] {
+        for triangles in [1, 5, 40, 700] {
+            let triples: Vec<[u32; 3]> = (0..triangles)
+                .map(|_| {
+                    let first = seed.below(count) as u32;
+                    let second = (first + 1 + seed.below(count - 2) as u32) % count as u32;
+                    let third = (0..count as u32)
+                        .cycle()
+                        .skip(seed.below(count) as usize)
+                        .find(|&p| p != first && p != second)
+                        .unwrap();
+                    [first, second, third]
+                })
+                .collect();
+            same(&placed(&mut seed, count as usize, triples.concat()));
+        }
+    }
+}
+
+/// The greatest determinants there are, as often as triangles may come, of either sign.
+#[test]
+fn volumes_at_the_extremes() {
+    let points = vec![16_128, 16_128, 0, 0, 16_128, 16_128, 16_128, 0, 16_128];
+    for triple in [[0, 1, 2], [0, 2, 1]] {
+        let mesh = Caller {
+            points: points.clone(),
+            triangles: triple.repeat(500_000),
+            marks: vec![0, 1, 0],
+        };
+        let (_, count, _, records) = same_in(&mesh, 3, 1, 6);
+        assert_eq!(count, 1);
+        assert_eq!(
+            records[0].volume.unsigned_abs(),
+            500_000 * 2 * 16_128u64.pow(3)
+        );
+    }
+}
+
+/// Each refusal made true or not, all 64 ways: the first that is true in the order 6, 7, 8, 9, 3, 11 is answered.
+#[test]
+fn refusals_in_order() {
+    let mut seed = Seed::new(45);
+    let whole = extracted(&mut seed, [4, 3, 3], 50);
+    for wrong in 0..64u32 {
+        let is = |bit: u32| wrong >> bit & 1 == 1;
+        let mut mesh = whole.clone();
+        let v = mesh.marks.len();
+        if is(1) {
+            mesh.triangles[4] = mesh.triangles[5];
+        }
+        if is(2) {
+            *mesh.points.last_mut().unwrap() = 16_129;
+        }
+        if is(3) {
+            mesh.marks[0] = 2;
+        }
+        if is(0) {
+            mesh.points.push(1);
+        }
+        let records = if is(5) { 0 } else { v };
+        let off = usize::from(is(4));
+        let first = [6, 7, 8, 9, 3, 11]
+            .iter()
+            .enumerate()
+            .find(|(bit, _)| is(*bit as u32))
+            .map_or(0, |(_, &number)| number);
+        for (numbers, work) in [
+            (v + off, 2 * v),
+            (v - off, 2 * v),
+            (v, 2 * v + off),
+            (v, 2 * v - off),
+        ] {
+            assert_eq!(same_in(&mesh, numbers, records, work).0, first);
+        }
+    }
+}
