@@ -20,8 +20,10 @@ test:
 	tools/example
 	echo "$$verdict"
 
+# The list is all that is said, unless the library cannot be built.
 run:
-	@rt staticlib viewer >/dev/null
+	@mkdir -p target
+	rt staticlib viewer >target/staticlib.log 2>&1 || { cat target/staticlib.log; exit 1; }
 	tools/cargo run --quiet --manifest-path host/Cargo.toml --package tholbrina -- list examples/casting.txt
 
 bench:
