@@ -3,7 +3,7 @@
 mod tools;
 
 use reference::curvature::Answer;
-use tools::{extracted, Caller, Seed};
+use tools::{extracted, first_of, made_up_triangles, spoiled, Caller, Seed};
 
 fn bits(numbers: &[f64]) -> Vec<u64> {
     numbers.iter().map(|number| number.to_bits()).collect()
@@ -119,18 +119,7 @@ fn made_up(
     place: &dyn Fn(&mut Seed) -> u32,
 ) -> Caller {
     let points = (0..3 * count).map(|_| place(seed)).collect();
-    let named = (0..triangles)
-        .flat_map(|_| {
-            let first = seed.below(count) as u32;
-            let second = (first + 1 + seed.below(count - 2) as u32) % count as u32;
-            let third = (0..count as u32)
-                .cycle()
-                .skip(seed.below(count) as usize)
-                .find(|&p| p != first && p != second)
-                .unwrap();
-            [first, second, third]
-        })
-        .collect();
+    let named = made_up_triangles(seed, count, triangles);
     let marks = (0..count).map(|_| (seed.below(4) == 0) as u8).collect();
     Caller {
         points,
@@ -182,33 +171,16 @@ fn refusals_in_order() {
     let mut seed = Seed::new(33);
     let whole = extracted(&mut seed, [3, 3, 3], 50);
     for wrong in 0..32u32 {
-        let is = |bit: u32| wrong >> bit & 1 == 1;
-        let mut mesh = whole.clone();
-        let count = mesh.marks.len();
-        if is(1) {
-            mesh.triangles[4] = mesh.triangles[5];
-        }
-        if is(2) {
-            *mesh.points.last_mut().unwrap() = 16_129;
-        }
-        if is(3) {
-            mesh.marks[0] = 2;
-        }
-        if is(0) {
-            mesh.triangles.push(0);
-        }
-        let first = [6, 7, 8, 9, 3]
-            .iter()
-            .enumerate()
-            .find(|(bit, _)| is(*bit as u32))
-            .map_or(0, |(_, &number)| number);
-        let off = usize::from(is(4));
+        let mesh = spoiled(&whole, wrong);
+        let count = whole.marks.len();
+        let off = (wrong >> 4) as usize;
         for (areas, vectors) in [
             (count + off, 3 * count),
             (count, 3 * count - off),
             (count - off, 3 * count + off),
         ] {
-            assert_eq!(same_in(&mesh, areas, vectors).0, first);
+            let number = same_in(&mesh, areas, vectors).0;
+            assert_eq!(number, first_of(&[6, 7, 8, 9, 3], wrong));
         }
     }
 }

@@ -2,7 +2,7 @@
 
 mod tools;
 
-use tools::{extracted, guard, Caller, Seed};
+use tools::{extracted, first_of, guard, made_up_triangles, spoiled, Caller, Seed};
 use viewer::Shell;
 
 /// Records that hold something before the call, a different one at each place.
@@ -208,23 +208,12 @@ fn meshes_made_by_hand() {
 }
 
 #[test]
-fn made_up_triangles() {
+fn meshes_of_made_up_triangles() {
     let mut seed = Seed::new(44);
     for count in [3u64, 10, 60, 2000] {
         for triangles in [1, 5, 40, 700] {
-            let triples: Vec<[u32; 3]> = (0..triangles)
-                .map(|_| {
-                    let first = seed.below(count) as u32;
-                    let second = (first + 1 + seed.below(count - 2) as u32) % count as u32;
-                    let third = (0..count as u32)
-                        .cycle()
-                        .skip(seed.below(count) as usize)
-                        .find(|&p| p != first && p != second)
-                        .unwrap();
-                    [first, second, third]
-                })
-                .collect();
-            same(&placed(&mut seed, count as usize, triples.concat()));
+            let named = made_up_triangles(&mut seed, count, triangles);
+            same(&placed(&mut seed, count as usize, named));
         }
     }
 }
@@ -254,35 +243,18 @@ fn refusals_in_order() {
     let mut seed = Seed::new(45);
     let whole = extracted(&mut seed, [4, 3, 3], 50);
     for wrong in 0..64u32 {
-        let is = |bit: u32| wrong >> bit & 1 == 1;
-        let mut mesh = whole.clone();
-        let v = mesh.marks.len();
-        if is(1) {
-            mesh.triangles[4] = mesh.triangles[5];
-        }
-        if is(2) {
-            *mesh.points.last_mut().unwrap() = 16_129;
-        }
-        if is(3) {
-            mesh.marks[0] = 2;
-        }
-        if is(0) {
-            mesh.points.push(1);
-        }
-        let records = if is(5) { 0 } else { v };
-        let off = usize::from(is(4));
-        let first = [6, 7, 8, 9, 3, 11]
-            .iter()
-            .enumerate()
-            .find(|(bit, _)| is(*bit as u32))
-            .map_or(0, |(_, &number)| number);
+        let mesh = spoiled(&whole, wrong);
+        let v = whole.marks.len();
+        let records = if wrong >> 5 == 1 { 0 } else { v };
+        let off = (wrong >> 4 & 1) as usize;
         for (numbers, work) in [
             (v + off, 2 * v),
             (v - off, 2 * v),
             (v, 2 * v + off),
             (v, 2 * v - off),
         ] {
-            assert_eq!(same_in(&mesh, numbers, records, work).0, first);
+            let number = same_in(&mesh, numbers, records, work).0;
+            assert_eq!(number, first_of(&[6, 7, 8, 9, 3, 11], wrong));
         }
     }
 }

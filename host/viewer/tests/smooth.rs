@@ -2,7 +2,7 @@
 
 mod tools;
 
-use tools::{extracted, guard, Caller, Seed};
+use tools::{extracted, first_of, guard, made_up_triangles, spoiled, Caller, Seed};
 
 fn work(mesh: &Caller) -> usize {
     6 * (mesh.triangles.len() / 3) + 5 * mesh.marks.len() + 1
@@ -118,20 +118,11 @@ fn a_neighbour_is_counted_once_and_marked_points_stay() {
 }
 
 #[test]
-fn made_up_triangles() {
+fn meshes_of_made_up_triangles() {
     let mut seed = Seed::new(23);
     for count in [3, 4, 10, 60] {
         for triangles in [1, 5, 40, 300] {
-            let named = (0..triangles)
-                .flat_map(|_| {
-                    let first = seed.below(count) as u32;
-                    let second = (first + 1 + seed.below(count - 2) as u32) % count as u32;
-                    let third = (0..count as u32)
-                        .find(|&p| p != first && p != second)
-                        .unwrap();
-                    [first, second, third]
-                })
-                .collect();
+            let named = made_up_triangles(&mut seed, count, triangles);
             let mut mesh = placed(&mut seed, count as usize, named);
             for mark in mesh.marks.iter_mut() {
                 *mark = (seed.below(5) == 0) as u8;
@@ -179,29 +170,11 @@ fn refusals_in_order() {
     let whole = extracted(&mut seed, [3, 3, 3], 50);
     assert!(whole.triangles.len() > 6);
     for wrong in 0..64u32 {
-        let is = |bit: u32| wrong >> bit & 1 == 1;
-        let mut mesh = whole.clone();
-        let second = 3 * mesh.marks.len() + usize::from(is(5));
-        let room = work(&mesh);
-        if is(1) {
-            mesh.triangles[4] = mesh.triangles[5];
-        }
-        if is(2) {
-            *mesh.points.last_mut().unwrap() = 16_129;
-        }
-        if is(3) {
-            mesh.marks[0] = 2;
-        }
-        if is(0) {
-            mesh.points.push(1);
-        }
-        let rounds = if is(4) { 101 } else { 1 };
-        let (number, _) = same_in(&mesh, rounds, 256, second, room);
-        let first = [6, 7, 8, 9, 10, 3]
-            .iter()
-            .enumerate()
-            .find(|(bit, _)| is(*bit as u32));
-        assert_eq!(number, first.map_or(0, |(_, &number)| number));
+        let mesh = spoiled(&whole, wrong);
+        let second = 3 * whole.marks.len() + (wrong >> 5) as usize;
+        let rounds = if wrong >> 4 & 1 == 1 { 101 } else { 1 };
+        let (number, _) = same_in(&mesh, rounds, 256, second, work(&whole));
+        assert_eq!(number, first_of(&[6, 7, 8, 9, 10, 3], wrong));
     }
 }
 

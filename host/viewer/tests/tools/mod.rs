@@ -160,3 +160,44 @@ pub fn extracted(seed: &mut Seed, sides: [u32; 3], bound: u64) -> Caller {
     let samples: Vec<u16> = (0..count).map(|_| seed.below(bound) as u16).collect();
     mesh_of(sides, (bound / 2) as u16, &samples)
 }
+
+/// So many triangles of three different points below a count, made up.
+pub fn made_up_triangles(seed: &mut Seed, count: u64, triangles: usize) -> Vec<u32> {
+    (0..triangles)
+        .flat_map(|_| {
+            let first = seed.below(count) as u32;
+            let second = (first + 1 + seed.below(count - 2) as u32) % count as u32;
+            let third = (0..count as u32)
+                .cycle()
+                .skip(seed.below(count) as usize)
+                .find(|&p| p != first && p != second)
+                .unwrap();
+            [first, second, third]
+        })
+        .collect()
+}
+
+/// The mesh with 6, 7, 8 and 9 made true where bits 0 to 3 are set.
+pub fn spoiled(whole: &Caller, wrong: u32) -> Caller {
+    let is = |bit: u32| wrong >> bit & 1 == 1;
+    let mut mesh = whole.clone();
+    if is(1) {
+        mesh.triangles[4] = mesh.triangles[5];
+    }
+    if is(2) {
+        *mesh.points.last_mut().unwrap() = 16_129;
+    }
+    if is(3) {
+        mesh.marks[0] = 2;
+    }
+    if is(0) {
+        mesh.points.push(1);
+    }
+    mesh
+}
+
+/// The first number of an order whose bit is set, or 0.
+pub fn first_of(order: &[u32], wrong: u32) -> u32 {
+    let first = order.get(wrong.trailing_zeros() as usize);
+    first.copied().unwrap_or(0)
+}
