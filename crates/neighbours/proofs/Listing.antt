@@ -6,9 +6,12 @@ use Prim.Native.Nat.{ℕ, zero, suc, _+_, _*_, _-_, _<_, _≤_}
 use native.Mathlib.Decide.{decLt}
 use native.Mathlib.Omega.{arith}
 use lib.Dec.{eqb}
-use lib.ListN.{length, getD, set, length-set, length-append, List·getD-append}
-use lib.Seq.{getD-set-same, getD-set-other, getD-append-add}
+use lib.ListN.{length, getD, set, length-set}
+use lib.Seq.{getD-set-same, getD-set-other}
 use Rattle.laws.specs.Range.{sumTo}
+use Rattle.laws.specs.Sum.{All}
+use Rattle.laws.proofs.Sums.{all-append}
+use Rattle.laws.proofs.Lists.{all-get}
 use Rattle.laws.proofs.Ranges.{sum-next, sum-rises, join-cong, of-join, some-cong}
 use Rattle.laws.specs.Mesh.{Triangle}
 use Rattle.mesh.specs.Mesh.{triangleCount, triangleAt}
@@ -25,23 +28,15 @@ different-cong f g n h =
     (λ k l. rw (h k l, some-cong k (λ j. eqb (f j) (g k)) (λ j. eqb (g j) (g k)) (λ j m. ap (λ x. eqb x (g k)) (h j (omega arith)))))
 
 -- every number of a list is below v
-abbrev pub Below : ℕ → List ℕ → Type 0
-Below v xs = (j : ℕ) → j < length xs → getD xs j 0 < v
+abbrev Below : ℕ → List ℕ → Type 0
+Below v xs = All (λ x. x < v) xs
 
 below-append : (v : ℕ) (xs ys : List ℕ) → Below v xs → Below v ys → Below v (xs ++ ys)
-below-append v xs ys a b j l = go (decLt j (length xs))
-  where
-    go : Dec (j < length xs) → getD (xs ++ ys) j 0 < v
-    go (yes m) = rw (List·getD-append xs ys 0 j m) (a j m)
-    go (no m) =
-        let is : j ≡ length xs + (j - length xs) = omega arith in
-        rw (is, getD-append-add xs ys (j - length xs) 0) (b (j - length xs) (omega (arith, length-append xs ys, l)))
+below-append v = all-append (λ x. x < v)
 
 below-two : (v : ℕ) (b : Bool) (q r : ℕ) → q < v → r < v → Below v (twoIf b q r)
-below-two v true q r hq hr zero l = hq
-below-two v true q r hq hr (suc zero) l = hr
-below-two v true q r hq hr (suc (suc j)) l = absurd (omega arith)
-below-two v false q r hq hr j l = absurd (omega arith)
+below-two v true q r hq hr = (hq, (hr, tt))
+below-two v false q r hq hr = tt
 
 pub record ListedTo (ts : List ℕ) (v at size p from to : ℕ) (work : List ℕ) : Type 0 where
   pub same : length work ≡ size
@@ -55,10 +50,10 @@ pub record ListedTo (ts : List ℕ) (v at size p from to : ℕ) (work : List ℕ
   pub stamped : StampsBelow (at + v + 1) (p + 1) work
 
 module _ (ts : List ℕ) (v at size : ℕ) (ok : Lists ts v at size) where
-  pub bucket-below : (p : ℕ) → Below v (bucket ts p)
+  all-below : (p : ℕ) → Below v (bucket ts p)
   unfolding bucketTo others
-  bucket-below p =
-      of-join (Below v) (λ j l. absurd (omega arith)) (below-append v) (triangleCount ts) (λ i. others (triangleAt ts i) p)
+  all-below p =
+      of-join (Below v) tt (below-append v) (triangleCount ts) (λ i. others (triangleAt ts i) p)
       (λ i l.
       others-below (triangleAt ts i) (ok .named (3 * i) (omega (arith, ok .threes))) (ok .named (3 * i + 1) (omega (arith, ok .threes))) (ok .named (3 * i + 2) (omega (arith, ok .threes))))
     where
@@ -69,6 +64,9 @@ module _ (ts : List ℕ) (v at size : ℕ) (ok : Lists ts v at size) where
           let z = twoIf (eqb (t .three) p) (t .one) (t .two) in
           below-append v x (y ++ z) (below-two v (eqb (t .one) p) (t .two) (t .three) b c)
           (below-append v y z (below-two v (eqb (t .two) p) (t .three) (t .one) c a) (below-two v (eqb (t .three) p) (t .one) (t .two) a b))
+
+  pub bucket-below : (p j : ℕ) → j < length (bucket ts p) → getD (bucket ts p) j 0 < v
+  bucket-below p j l = all-get (λ x. x < v) (bucket ts p) j 0 (all-below p) l
 
   -- a list is no longer than its bucket, so it starts no later
   list-le : (p : ℕ) → length (listOf ts p) ≤ length (bucket ts p)
@@ -219,16 +217,18 @@ module _ (ts : List ℕ) (v at size : ℕ) (ok : Lists ts v at size) where
           rw is (getD-set-same work (at + v) to 0 (omega (arith, ok .room, h .same)) ∙ h .to-is)
 
   -- every point in a list is below v
-  pub list-below : (p : ℕ) → Below v (listOf ts p)
+  pub list-below : (p j : ℕ) → j < length (listOf ts p) → getD (listOf ts p) j 0 < v
   unfolding listOf differentTo
-  list-below p =
-      of-join (Below v) (λ j l. absurd (omega arith)) (below-append v) (length (bucket ts p))
-      (λ k. cond (metTo entry k (entry k)) [] (entry k ∷ [])) (λ k l. one (metTo entry k (entry k)) (entry k) (bucket-below p k l))
+  list-below p j l = all-get (λ x. x < v) (listOf ts p) j 0 all l
     where
       entry : ℕ → ℕ
       entry k = getD (bucket ts p) k 0
 
       one : (b : Bool) (x : ℕ) → x < v → Below v (cond b [] (x ∷ []))
-      one true x h j l = absurd (omega arith)
-      one false x h zero l = h
-      one false x h (suc j) l = absurd (omega arith)
+      one true x h = tt
+      one false x h = (h, tt)
+
+      all : Below v (listOf ts p)
+      all =
+          of-join (Below v) tt (below-append v) (length (bucket ts p))
+          (λ k. cond (metTo entry k (entry k)) [] (entry k ∷ [])) (λ k l. one (metTo entry k (entry k)) (entry k) (bucket-below p k l))

@@ -1,7 +1,7 @@
 -- How long the buckets are, and that together they take all the entries.
-use mathlib.Core.Path.{_≡_, refl, ap, ap₂, sym, _∙_}
+use mathlib.Core.Path.{_≡_, refl, ap, sym, _∙_}
 use mathlib.Core.List.{List}
-use mathlib.Core.Bool.{Bool, true, false, cond}
+use mathlib.Core.Bool.{Bool, true, false}
 use Prim.Native.Nat.{ℕ, zero, suc, _+_, _*_, _<_, _≤_}
 use native.Mathlib.Nat.{add-zero}
 use native.Mathlib.Omega.{arith}
@@ -9,7 +9,8 @@ use lib.Dec.{eqb}
 use lib.ListN.{length, getD, length-append}
 use Rattle.laws.specs.Range.{sumTo, countTo, one-if}
 use Rattle.laws.specs.Mesh.{Triangle}
-use Rattle.laws.proofs.Ranges.{sum-next, sum-cong, sum-add, sum-picks, sum-blocks, sum-rises, sum-quiet, length-join}
+use Rattle.laws.proofs.Ranges.{sum-next, sum-cong, sum-blocks, sum-rises, length-join}
+use Rattle.laws.proofs.Parted.{parted}
 use Rattle.mesh.specs.Mesh.{triangleCount, triangleAt}
 use Rattle.neighbours.specs.Lists.{twoIf, others, bucketTo, bucket, Lists}
 use Rattle.neighbours.specs.Steps.{sizeTo, beginOf}
@@ -47,26 +48,13 @@ module _ (ts : List ℕ) (v at room : ℕ) (ok : Lists ts v at room) where
   pub bucket-size : (p : ℕ) → sizeTo ts (length ts) p ≡ length (bucket ts p)
   bucket-size p = ap (λ n. sizeTo ts n p) (ok .threes) ∙ sized-threes ts (triangleCount ts) p
 
-  -- each corner is in one bucket
-  total-to : (n : ℕ) → n ≤ length ts → sumTo v (sizeTo ts n) ≡ 2 * n
-  unfolding countTo sumTo
-  total-to zero l = sum-quiet 0 v (sizeTo ts 0) (omega arith) (λ i a b. refl)
-  total-to (suc n) l =
-      sum-cong v (sizeTo ts (suc n)) (λ p. sizeTo ts n p + cond (eqb (getD ts n 0) p) 2 0) (λ p k. more p (eqb (getD ts n 0) p))
-      ∙ sum-add v (sizeTo ts n) (λ p. cond (eqb (getD ts n 0) p) 2 0)
-      ∙ ap₂ _+_ (total-to n (omega arith)) (sum-picks v (getD ts n 0) 2 (ok .named n (omega arith)))
-      ∙ omega arith
-    where
-      more : (p : ℕ) (b : Bool) → 2 * (countTo n (λ k. eqb (getD ts k 0) p) + one-if b) ≡ sizeTo ts n p + cond b 2 0
-      more p true = omega arith
-      more p false = omega arith
-
-  -- the buckets take all the entries
+  -- the buckets take all the entries, since each corner is in one
   pub entries-taken : beginOf ts v ≡ at
   unfolding beginOf
   entries-taken =
       sum-cong v (λ q. length (bucket ts q)) (sizeTo ts (length ts)) (λ q l. sym (bucket-size q))
-      ∙ total-to (length ts) (omega arith)
+      ∙ sum-twice v (λ q. countTo (length ts) (λ k. eqb (getD ts k 0) q))
+      ∙ ap (λ n. 2 * n) (parted v (length ts) (λ k. getD ts k 0) (ok .named))
       ∙ sym (ok .entered)
 
 module _ (ts : List ℕ) where
