@@ -2,7 +2,7 @@
 use mathlib.Core.List.{List, [], _∷_, _++_}
 use Prim.Native.Nat.{ℕ, _+_}
 use mathlib.Core.Bool.{cond}
-use lib.Dec.{leb}
+use lib.Dec.{ltb}
 use lib.ListN.{length}
 use Rattle.laws.specs.Room.{laid}
 use Rattle.text.specs.Decimal.{decimal}
@@ -29,6 +29,18 @@ letterR = 82
 unfoldable pub refusalText : ℕ → ℕ → List ℕ
 refusalText number at = lettered letterR (number ∷ at ∷ [])
 
--- a room after a text was written to its front: a room that is too short for the whole text stays
-unfoldable pub written : List ℕ → List ℕ → List ℕ
-written text room = cond (leb (length text) (length room)) (laid text room) room
+-- what a call leaves behind: the number, the length of the text, and the room
+pub record Outcome : Type 0 where
+  pub number : ℕ
+  pub length : ℕ
+  pub room : List ℕ
+
+abbrev pub outcome : ℕ → ℕ → List ℕ → Outcome
+outcome number long room = record { number = number; length = long; room = room }
+
+-- a text goes to the front of the room; 3 if the room is too short for the whole text, and the room stays
+unfoldable pub written : List ℕ → List ℕ → Outcome
+written text room = cond (ltb (length room) (length text)) (outcome 3 0 room) (outcome 0 (length text) (laid text room))
+
+abbrev pub refusalWritten : ℕ → ℕ → List ℕ → Outcome
+refusalWritten number at room = written (refusalText number at) room

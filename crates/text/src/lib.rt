@@ -4,8 +4,8 @@ mod reading;
 mod small;
 mod writing;
 
-pub use mesh_text::Written;
 pub use mesh_text::write_mesh;
 pub use small::Parsed;
 pub use small::read_grid;
+pub use writing::Written;
 pub use writing::write_refusal;

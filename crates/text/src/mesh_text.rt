@@ -1,21 +1,21 @@
-// The lines of a mesh: points and triangles, measured and written.
+// The lines of a mesh: points, triangles and shells, measured and written.
 ghost use mathlib.Core.Path.{_≡_};
 ghost use mathlib.Core.Bool.{true};
 ghost use Prim.Native.Nat.{_+_, _*_, _≤_, _<_};
 ghost use lib.ListN.{length};
 ghost use lib.Seq.{sets};
 ghost use Rattle.grid.specs.Limits.{mostPoints, mostTriangles};
-ghost use Rattle.text.specs.MeshText.{pointNumbers, pointsText, triangleNumbers, trianglesText, linesOf, listsFit, outcome, meshWritten};
+ghost use Rattle.text.specs.Writing.{outcome};
+ghost use Rattle.text.specs.MeshText.{pointNumbers, pointsText, triangleNumbers, trianglesText, shellNumbers, shellText, shellsText, linesOf, listsFit, recordsFit, meshWritten};
+use crate::writing::Written;
 use crate::writing::fields_length;
+use crate::writing::refused;
+use crate::writing::signed_length;
+use crate::writing::write_fields;
 use crate::writing::write_lettered;
+use crate::writing::write_signed;
 use grid::limits::MOST_POINTS;
 use grid::limits::MOST_TRIANGLES;
-
-// Number 0 and the length of the text if granted, else the refusal's number and 0.
-pub struct Written {
-    pub number: u32,
-    pub length: usize,
-}
 
 // The numbers of a point's line.
 fn point_numbers(points: &[u32], edges: &[u32], marks: &[u8], i: usize) -> [u32; 5]
@@ -114,6 +114,65 @@ fn write_triangles(triangles: &[u32], t: usize, room: &mut [u8], from: usize) ->
     at
 }
 
+// The four numbers of a shell's line that have no sign.
+fn shell_numbers(records: &[u32], i: usize) -> [u32; 4]
+    requires { ⌜ 4 * i + 3 < length (now records) ⌝ }
+    ensures { λ r. ⌜ r ≡ shellNumbers (now (records .entry)) i ⌝ }
+{
+    let at = 4 * i;
+    [
+        records[at],
+        records[at + 1],
+        records[at + 2],
+        records[at + 3],
+    ]
+}
+
+// How many bytes the lines of all shells take.
+fn shells_length(records: &[u32], volumes: &[i64]) -> usize
+    requires { ⌜ (4 * length (now volumes) ≤ length (now records)) × (length (now volumes) ≤ mostPoints) ⌝ }
+    ensures length { λ r. ⌜ r ≡ length (shellsText (now (records .entry)) (now (volumes .entry)) (length (now (volumes .entry)))) ⌝ }
+    ensures small { λ r. ⌜ r ≤ 107 * length (now (volumes .entry)) ⌝ }
+{
+    let mut sum = 0;
+    let mut i = 0;
+    while i < volumes.len() {
+        let numbers = shell_numbers(records, i);
+        sum += 2 + fields_length(&numbers) + signed_length(volumes[i]) + 1;
+        i += 1;
+    }
+    sum
+}
+
+// Writes a shell's line, and answers the place behind it.
+fn write_shell(numbers: &[u32], volume: i64, room: &mut [u8], at: usize) -> usize
+    requires { ⌜ at + length (shellText (now numbers) volume) ≤ length (now room) ⌝ }
+    ensures place { λ r. ⌜ r ≡ at + length (shellText (now (numbers .entry)) volume) ⌝ }
+    ensures text { λ _. ⌜ now (room .exit) ≡ sets (now (room .entry)) at (shellText (now (numbers .entry)) volume) ⌝ }
+{
+    room[at] = b'S';
+    room[at + 1] = b'\t';
+    let behind = write_fields(numbers, 1, room, at + 2);
+    write_signed(volume, b'\n', room, behind)
+}
+
+// Writes the lines of all shells, and answers the place behind them.
+fn write_shells(records: &[u32], volumes: &[i64], room: &mut [u8], from: usize) -> usize
+    requires { ⌜ (4 * length (now volumes) ≤ length (now records)) × (length (now volumes) ≤ mostPoints) ⌝ }
+    requires { ⌜ from + length (shellsText (now records) (now volumes) (length (now volumes))) ≤ length (now room) ⌝ }
+    ensures place { λ r. ⌜ r ≡ from + length (shellsText (now (records .entry)) (now (volumes .entry)) (length (now (volumes .entry)))) ⌝ }
+    ensures text { λ _. ⌜ now (room .exit) ≡ sets (now (room .entry)) from (shellsText (now (records .entry)) (now (volumes .entry)) (length (now (volumes .entry)))) ⌝ }
+{
+    let mut at = from;
+    let mut i = 0;
+    while i < volumes.len() {
+        let numbers = shell_numbers(records, i);
+        at = write_shell(&numbers, volumes[i], room, at);
+        i += 1;
+    }
+    at
+}
+
 fn lists_fit(points: usize, edges: usize, v: usize, triangles: usize) -> bool
     ensures { λ r. ⌜ r ≡ listsFit points edges v triangles ⌝ }
 {
@@ -132,6 +191,16 @@ fn lists_fit(points: usize, edges: usize, v: usize, triangles: usize) -> bool
     triangles / 3 <= MOST_TRIANGLES as usize
 }
 
+// No mesh has more shells than points.
+fn records_fit(records: usize, volumes: usize) -> bool
+    ensures { λ r. ⌜ r ≡ recordsFit records volumes ⌝ }
+{
+    if volumes > (MOST_POINTS as usize) {
+        return false;
+    }
+    records == 4 * volumes
+}
+
 // The length of a mesh's text.
 fn mesh_length(
     counts: &[u32],
@@ -139,14 +208,18 @@ fn mesh_length(
     edges: &[u32],
     marks: &[u8],
     triangles: &[u32],
+    records: &[u32],
+    volumes: &[i64],
 ) -> usize
     requires { ⌜ listsFit (length (now points)) (length (now edges)) (length (now marks)) (length (now triangles)) ≡ true ⌝ }
+    requires { ⌜ recordsFit (length (now records)) (length (now volumes)) ≡ true ⌝ }
     requires { ⌜ length (now counts) ≡ 3 ⌝ }
-    ensures { λ r. ⌜ r ≡ length (linesOf (now (counts .entry)) (now (points .entry)) (now (edges .entry)) (now (marks .entry)) (now (triangles .entry))) ⌝ }
+    ensures { λ r. ⌜ r ≡ length (linesOf (now (counts .entry)) (now (points .entry)) (now (edges .entry)) (now (marks .entry)) (now (triangles .entry)) (now (records .entry)) (now (volumes .entry))) ⌝ }
 {
     let head = 2 + fields_length(counts);
     let middle = points_length(points, edges, marks, marks.len());
-    head + middle + triangles_length(triangles, triangles.len() / 3)
+    let end = triangles_length(triangles, triangles.len() / 3);
+    head + middle + end + shells_length(records, volumes)
 }
 
 // Writes a mesh's text to the front of a room that holds it.
@@ -156,38 +229,58 @@ fn write_lines(
     edges: &[u32],
     marks: &[u8],
     triangles: &[u32],
+    records: &[u32],
+    volumes: &[i64],
     room: &mut [u8],
 )
     requires { ⌜ listsFit (length (now points)) (length (now edges)) (length (now marks)) (length (now triangles)) ≡ true ⌝ }
-    requires { ⌜ length (linesOf (now counts) (now points) (now edges) (now marks) (now triangles)) ≤ length (now room) ⌝ }
-    ensures { λ _. ⌜ now (room .exit) ≡ sets (now (room .entry)) 0 (linesOf (now (counts .entry)) (now (points .entry)) (now (edges .entry)) (now (marks .entry)) (now (triangles .entry))) ⌝ }
+    requires { ⌜ recordsFit (length (now records)) (length (now volumes)) ≡ true ⌝ }
+    requires { ⌜ length (linesOf (now counts) (now points) (now edges) (now marks) (now triangles) (now records) (now volumes)) ≤ length (now room) ⌝ }
+    ensures { λ _. ⌜ now (room .exit) ≡ sets (now (room .entry)) 0 (linesOf (now (counts .entry)) (now (points .entry)) (now (edges .entry)) (now (marks .entry)) (now (triangles .entry)) (now (records .entry)) (now (volumes .entry))) ⌝ }
 {
     let behind_counts = write_lettered(b'M', counts, room, 0);
     let behind_points = write_points(points, edges, marks, marks.len(), room, behind_counts);
-    write_triangles(triangles, triangles.len() / 3, room, behind_points);
+    let behind_triangles = write_triangles(triangles, triangles.len() / 3, room, behind_points);
+    write_shells(records, volumes, room, behind_triangles);
 }
 
-// Writes the M, V and T lines of a mesh to the front of the room, and answers their length; a room that is too short stays. A refusal, 6, leaves it too.
+// Writes the text of a mesh to the front of the room, and answers its length: its points and triangles, and each shell's four numbers and sixfold volume.
+// Lists that do not fit are refused with 6, and a room that is too short with 3; a refusal leaves the room.
 pub fn write_mesh(
-    shells: u32,
     points: &[u32],
     edges: &[u32],
     marks: &[u8],
     triangles: &[u32],
+    records: &[u32],
+    volumes: &[i64],
     room: &mut [u8],
 ) -> Written
-    ensures { λ r. ⌜ outcome (r .number) (r .length) (now (room .exit)) ≡ meshWritten shells (now (points .entry)) (now (edges .entry)) (now (marks .entry)) (now (triangles .entry)) (now (room .entry)) ⌝ }
+    ensures { λ r. ⌜ outcome (r .number) (r .length) (now (room .exit)) ≡ meshWritten (now (points .entry)) (now (edges .entry)) (now (marks .entry)) (now (triangles .entry)) (now (records .entry)) (now (volumes .entry)) (now (room .entry)) ⌝ }
 {
     if !lists_fit(points.len(), edges.len(), marks.len(), triangles.len()) {
-        return Written {
-            number: 6,
-            length: 0,
-        };
+        return refused(6);
     }
-    let counts = [marks.len() as u32, (triangles.len() / 3) as u32, shells];
-    let length = mesh_length(&counts, points, edges, marks, triangles);
-    if length <= room.len() {
-        write_lines(&counts, points, edges, marks, triangles, room);
+    if !records_fit(records.len(), volumes.len()) {
+        return refused(6);
     }
+    let counts = [
+        marks.len() as u32,
+        (triangles.len() / 3) as u32,
+        volumes.len() as u32,
+    ];
+    let length = mesh_length(&counts, points, edges, marks, triangles, records, volumes);
+    if room.len() < length {
+        return refused(3);
+    }
+    write_lines(
+        &counts,
+        points,
+        edges,
+        marks,
+        triangles,
+        records,
+        volumes,
+        room,
+    );
     Written { number: 0, length }
 }

@@ -4,9 +4,21 @@ ghost use mathlib.Core.List.{_++_, _∷_, []};
 ghost use Prim.Native.Nat.{_+_, _*_, _≤_, _<_};
 ghost use lib.ListN.{length, set};
 ghost use lib.Seq.{sets};
-ghost use Rattle.text.specs.Decimal.{decimal};
-ghost use Rattle.text.specs.Writing.{fields, lettered, refusalText, written};
+ghost use Rattle.text.specs.Decimal.{decimal, signed, sizeOf};
+ghost use Rattle.text.specs.Writing.{fields, lettered, outcome, refusalWritten};
 use crate::reading::end_of;
+
+// Number 0 and the length of the text if granted, else the refusal's number and 0.
+pub struct Written {
+    pub number: u32,
+    pub length: usize,
+}
+
+pub fn refused(number: u32) -> Written
+    ensures { λ r. ⌜ r ≡ record { number = number; length = 0 } ⌝ }
+{
+    Written { number, length: 0 }
+}
 
 // How many digits a number has.
 pub fn digit_count(n: u64) -> usize
@@ -46,6 +58,41 @@ pub fn write_field(n: u64, end: u8, room: &mut [u8], at: usize) -> usize
     spell(n, count, room, at);
     room[at + count] = end;
     at + count + 1
+}
+
+// The size of a number, without its sign. The least number's size is no signed number, so 1 is added after the turn.
+fn size(n: i64) -> u64
+    ensures { λ r. ⌜ r ≡ sizeOf n ⌝ }
+{
+    if n < 0 {
+        return ((-1 - n) as u64) + 1;
+    }
+    n as u64
+}
+
+// How many bytes a signed number takes.
+pub fn signed_length(n: i64) -> usize
+    ensures length { λ r. ⌜ r ≡ length (signed n) ⌝ }
+    ensures small { λ r. ⌜ r ≤ 20 ⌝ }
+{
+    let count = digit_count(size(n));
+    if n < 0 {
+        return count + 1;
+    }
+    count
+}
+
+// Writes a signed number and the byte that ends it, and answers the place behind them.
+pub fn write_signed(n: i64, end: u8, room: &mut [u8], at: usize) -> usize
+    requires { ⌜ at + (length (signed n) + 1) ≤ length (now room) ⌝ }
+    ensures place { λ r. ⌜ r ≡ at + (length (signed n) + 1) ⌝ }
+    ensures text { λ _. ⌜ now (room .exit) ≡ sets (now (room .entry)) at (signed n ++ end ∷ []) ⌝ }
+{
+    if n < 0 {
+        room[at] = b'-';
+        return write_field(size(n), end, room, at + 1);
+    }
+    write_field(size(n), end, room, at)
 }
 
 // Writes numbers that have `more` fields after them in their line, and answers the place behind them.
@@ -95,15 +142,15 @@ pub fn write_lettered(letter: u8, numbers: &[u32], room: &mut [u8], at: usize) -
     write_fields(numbers, 0, room, at + 2)
 }
 
-// Writes a refusal's line to the front of the room, and answers its length; a room that is too short stays.
-pub fn write_refusal(number: u32, line: u32, room: &mut [u8]) -> usize
-    ensures length { λ r. ⌜ r ≡ length (refusalText number line) ⌝ }
-    ensures text { λ _. ⌜ now (room .exit) ≡ written (refusalText number line) (now (room .entry)) ⌝ }
+// Writes a refusal's line to the front of the room, and answers its length. A room that is too short is refused with 3, and stays.
+pub fn write_refusal(number: u32, line: u32, room: &mut [u8]) -> Written
+    ensures { λ r. ⌜ outcome (r .number) (r .length) (now (room .exit)) ≡ refusalWritten number line (now (room .entry)) ⌝ }
 {
     let numbers = [number, line];
     let length = 2 + fields_length(&numbers);
     if room.len() < length {
-        return length;
+        return refused(3);
     }
-    write_lettered(b'R', &numbers, room, 0)
+    write_lettered(b'R', &numbers, room, 0);
+    Written { number: 0, length }
 }

@@ -1,0 +1,2 @@
+-- Records handed on as numbers.
+pub mod Listing
