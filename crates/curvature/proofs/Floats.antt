@@ -8,7 +8,7 @@ use lib.Ieee.{Float, binary64, ofBits, ofFields, odd, ofInt, round, units, size,
 use lib.IntN.{ℤ, pos, natAbs}
 use mir.Syntax.{w64}
 use mir.Val.{toZ, ofZ}
-use Rattle.curvature.specs.Whole.{negative}
+use Rattle.laws.specs.Signed.{negative}
 use Rattle.curvature.specs.Vectors.{plusZero, whole}
 use Rattle.curvature.proofs.Signed.{held, read-back}
 

@@ -4,7 +4,7 @@ use mathlib.Core.Path.{_≡_}
 use lib.Ieee.{Float, binary64, div, ofBits}
 use Rattle.curvature.specs.declared.corners.Dots.{Dots}
 use Rattle.curvature.specs.declared.corners.Corners.{Corners}
-use Rattle.curvature.specs.Whole.{negative}
+use Rattle.laws.specs.Signed.{negative}
 use Rattle.curvature.specs.Corners.{corners, acuteShares, shares}
 use Rattle.curvature.proofs.Floats.{four-is, eight-is}
 

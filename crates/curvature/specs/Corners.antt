@@ -7,7 +7,7 @@ use Rattle.root.specs.Root.{scaleOf, rootOf}
 use Rattle.curvature.specs.declared.sides.Place.{Place}
 use Rattle.curvature.specs.declared.corners.Dots.{Dots}
 use Rattle.curvature.specs.declared.corners.Corners.{Corners}
-use Rattle.curvature.specs.Whole.{negative}
+use Rattle.laws.specs.Signed.{negative}
 use Rattle.curvature.specs.Sides.{dotAt, oppositeAt}
 use Rattle.curvature.specs.Vectors.{whole}
 

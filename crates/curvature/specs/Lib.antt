@@ -1,6 +1,5 @@
--- Areas and mean curvature (document 01). Reading order: signed whole numbers; a triangle in whole numbers, and how large they are; vectors of binary64 numbers; what a triangle
+-- Areas and mean curvature (document 01). Reading order: a triangle in whole numbers, and how large they are; vectors of binary64 numbers; what a triangle
 -- gives its corners; the sums of a point; a point's answer; what the calls leave behind, and their promises.
-pub mod Whole
 pub mod Sides
 pub mod Sizes
 pub mod Vectors

@@ -10,6 +10,7 @@ ghost use Rattle.curvature.specs.Corners.{dotsOf as dotsAre, squaresOf a
 use crate::sides;
 use crate::sides::Place;
 use crate::whole;
+use laws::signed;
 
 // d at each corner.
 pub struct Dots {
@@ -101,21 +102,21 @@ pub(crate) fn shares(d: Dots, l: Corners, cot: Corners, double: f64) -> Corners
 {
     let quarter = double / 4.0;
     let eighth = double / 8.0;
-    if whole::is_negative(d.one) {
+    if signed::is_negative(d.one) {
         return Corners {
             one: quarter,
             two: eighth,
             three: eighth,
         };
     }
-    if whole::is_negative(d.two) {
+    if signed::is_negative(d.two) {
         return Corners {
             one: eighth,
             two: quarter,
             three: eighth,
         };
     }
-    if whole::is_negative(d.three) {
+    if signed::is_negative(d.three) {
         return Corners {
             one: eighth,
             two: eighth,

@@ -3,7 +3,6 @@ ghost use mathlib.Core.Path.{_≡_};
 ghost use Prim.Native.Nat.{_+_, _*_, _^_, _<_, _≤_};
 ghost use lib.IntN.{pos, natAbs, _+ℤ_, _-ℤ_, _*ℤ_};
 ghost use lib.Ieee.{binary64, ofInt};
-ghost use Rattle.curvature.specs.Whole.{negative};
 
 pub(crate) fn plus(a: i64, b: i64) -> i64
     requires { ⌜ natAbs a + natAbs b < 2 ^ 63 ⌝ }
@@ -37,12 +36,6 @@ pub(crate) fn apart(a: u32, b: u32) -> i64
     ensures { λ r. ⌜ r ≡ pos a -ℤ pos b ⌝ }
 {
     (a as i64) - (b as i64)
-}
-
-pub(crate) fn is_negative(a: i64) -> bool
-    ensures { λ r. ⌜ r ≡ negative a ⌝ }
-{
-    a < 0
 }
 
 // Up to 2^53 every whole number is a binary64.

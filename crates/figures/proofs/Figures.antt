@@ -17,7 +17,7 @@ use Rattle.smooth.specs.Round.{moved, movedIf, round}
 use lib.Count.{trailingZeros}
 use lib.Ieee.{ofInt, div, add, mul, sum, round as rounded, units, odd, size, span, climb}
 use Rattle.root.specs.Root.{scaleOf, firstScale, rootOf, rootBelow, nextRoot}
-use Rattle.curvature.specs.Whole.{negative}
+use Rattle.laws.specs.Signed.{negative}
 use Rattle.curvature.specs.Sides.{placeOf, between, dot, cross, squared, dotAt, oppositeAt, crossAt}
 use Rattle.curvature.specs.Corners.{dotsOf, squaresOf, doubleArea, cotangents, acuteShare, acuteShares, shares}
 use Rattle.figures.specs.Figure.{Holds, figures}

@@ -1,9 +1,10 @@
 // Signed whole numbers: each operation with the exact result, where it fits.
 ghost use mathlib.Core.Path.{_≡_};
 ghost use Prim.Native.Nat.{_<_, _^_};
-ghost use lib.IntN.{pos, _+ℤ_, _-ℤ_};
+ghost use lib.IntN.{pos, natAbs, _+ℤ_, _-ℤ_};
 ghost use mir.Syntax.{w64};
 ghost use mir.Val.{SFits};
+ghost use Rattle.laws.specs.Signed.{negative};
 
 // The sum of two numbers.
 pub fn sum(a: i64, b: i64) -> i64
@@ -20,4 +21,20 @@ pub fn excess(a: u64, b: u64) -> i64
     ensures { λ r. ⌜ r ≡ pos a -ℤ pos b ⌝ }
 {
     (a as i64) - (b as i64)
+}
+
+pub fn is_negative(a: i64) -> bool
+    ensures { λ r. ⌜ r ≡ negative a ⌝ }
+{
+    a < 0
+}
+
+// The size of a number, without its sign. That of the least number is no signed number, so 1 is added after the turn.
+pub fn size(a: i64) -> u64
+    ensures { λ r. ⌜ r ≡ natAbs a ⌝ }
+{
+    if is_negative(a) {
+        return ((-1 - a) as u64) + 1;
+    }
+    a as u64
 }

@@ -13,7 +13,7 @@ use lib.IntN.{pos, negsuc}
 use Rattle.text.specs.Decimal.{isDigit, decimalTo, decimal, signed}
 use Rattle.text.specs.Reading.{after, digitsOn, readNumber, endedBy, readField, endOf, readRow, ahead, lineThen, readRows}
 use Rattle.text.specs.Writing.{line, fields, lettered, refusalText}
-use Rattle.text.specs.MeshText.{pointsText, trianglesText, linesOf, meshText, shellText}
+use Rattle.text.specs.MeshText.{pointsText, trianglesText, shellText, shellsText, linesOf, meshText}
 use Rattle.text.specs.Grid.{headOf, readHead, sideFits, sidesFit, samplesOf, smoothingFits, headNumber, Outcome, refused, granted, withRows, withHead, readGrid}
 use Rattle.text.specs.GridText.{sizeOf, row, rowsText, headText, gridText}
 use Rattle.text.specs.declared.small.Head.{Head}
@@ -44,11 +44,11 @@ example-text = refl
 exampleOutput : List ℕ
 exampleOutput = 77 ∷ 9 ∷ 51 ∷ 9 ∷ 49 ∷ 9 ∷ 49 ∷ 10 ∷ 86 ∷ 9 ∷ 48 ∷ 9 ∷ 49 ∷ 50 ∷ 56 ∷ 9 ∷ 48 ∷ 9 ∷ 48 ∷ 9 ∷ 49 ∷ 10 ∷ 86 ∷ 9 ∷ 49 ∷ 9 ∷ 48 ∷ 9 ∷ 49 ∷ 50 ∷ 56 ∷ 9 ∷ 48 ∷ 9 ∷ 49 ∷ 10 ∷ 86 ∷ 9 ∷ 50 ∷ 9 ∷ 48 ∷ 9 ∷ 48 ∷ 9 ∷ 49 ∷ 50 ∷ 56 ∷ 9 ∷ 49 ∷ 10 ∷ 84 ∷ 9 ∷ 48 ∷ 9 ∷ 49 ∷ 9 ∷ 50 ∷ 10 ∷ 83 ∷ 9 ∷ 48 ∷ 9 ∷ 51 ∷ 9 ∷ 49 ∷ 9 ∷ 49 ∷ 9 ∷ 50 ∷ 48 ∷ 57 ∷ 55 ∷ 49 ∷ 53 ∷ 50 ∷ 10 ∷ []
 
-example-output : meshText 1 (128 ∷ 0 ∷ 0 ∷ 0 ∷ 128 ∷ 0 ∷ 0 ∷ 0 ∷ 128 ∷ []) (0 ∷ 1 ∷ 2 ∷ []) (1 ∷ 1 ∷ 1 ∷ []) (0 ∷ 1 ∷ 2 ∷ []) ++ shellText 0 3 1 1 (pos 2097152) ≡ exampleOutput
-unfolding exampleOutput decimalTo decimal signed endOf line fields lettered joinTo pointsText trianglesText linesOf shellText
+example-output : meshText (128 ∷ 0 ∷ 0 ∷ 0 ∷ 128 ∷ 0 ∷ 0 ∷ 0 ∷ 128 ∷ []) (0 ∷ 1 ∷ 2 ∷ []) (1 ∷ 1 ∷ 1 ∷ []) (0 ∷ 1 ∷ 2 ∷ []) (0 ∷ 3 ∷ 1 ∷ 1 ∷ []) (pos 2097152 ∷ []) ≡ exampleOutput
+unfolding exampleOutput decimalTo decimal signed endOf line fields lettered joinTo pointsText trianglesText shellText shellsText linesOf
 example-output = refl
 
-negative-shell : shellText 4 5 6 0 (negsuc 99) ≡ 83 ∷ 9 ∷ 52 ∷ 9 ∷ 53 ∷ 9 ∷ 54 ∷ 9 ∷ 48 ∷ 9 ∷ 45 ∷ 49 ∷ 48 ∷ 48 ∷ 10 ∷ []
+negative-shell : shellText (4 ∷ 5 ∷ 6 ∷ 0 ∷ []) (negsuc 99) ≡ 83 ∷ 9 ∷ 52 ∷ 9 ∷ 53 ∷ 9 ∷ 54 ∷ 9 ∷ 48 ∷ 9 ∷ 45 ∷ 49 ∷ 48 ∷ 48 ∷ 10 ∷ []
 unfolding decimalTo decimal signed endOf fields shellText
 negative-shell = refl
 

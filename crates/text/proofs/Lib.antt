@@ -9,5 +9,7 @@ pub mod GridTexts
 pub mod Examples
 pub mod Outcomes
 pub mod Written
+pub mod Signs
 pub mod LinesWritten
+pub mod ShellTexts
 pub mod MeshTexts

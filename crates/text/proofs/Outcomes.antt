@@ -2,20 +2,19 @@
 use mathlib.Core.Path.{_≡_, sym, _∙_}
 use mathlib.Core.List.{List}
 use Prim.Native.Nat.{ℕ}
-use lib.ListN.{length}
-use Rattle.text.specs.Writing.{refusalText, written}
+use lib.IntN.{ℤ}
+use Rattle.text.specs.Writing.{refusalWritten}
+use Rattle.text.specs.Writing.{Outcome as Text}
 use Rattle.text.specs.Grid.{Outcome}
 use Rattle.text.specs.MeshText.{meshWritten}
-use Rattle.text.specs.MeshText.{Outcome as MeshOutcome}
 use Rattle.text.specs.Promise.{ReadsGrid}
 
 pub one-grid : (input room : List ℕ) (a b : Outcome) → ReadsGrid input room a → ReadsGrid input room b → a ≡ b
 one-grid input room a b p q = p ∙ sym q
 
-pub one-mesh : (shells : ℕ) (points edges marks triangles room : List ℕ) (a b : MeshOutcome)
-    → a ≡ meshWritten shells points edges marks triangles room → b ≡ meshWritten shells points edges marks triangles room → a ≡ b
-one-mesh shells points edges marks triangles room a b p q = p ∙ sym q
+pub one-mesh : (points edges marks triangles records : List ℕ) (volumes : List ℤ) (room : List ℕ) (a b : Text)
+    → a ≡ meshWritten points edges marks triangles records volumes room → b ≡ meshWritten points edges marks triangles records volumes room → a ≡ b
+one-mesh points edges marks triangles records volumes room a b p q = p ∙ sym q
 
-pub one-refusal : (number at m n : ℕ) (room x y : List ℕ) → (m ≡ length (refusalText number at)) × (x ≡ written (refusalText number at) room)
-    → (n ≡ length (refusalText number at)) × (y ≡ written (refusalText number at) room) → (m ≡ n) × (x ≡ y)
-one-refusal number at m n room x y p q = (p .0 ∙ sym (q .0), p .1 ∙ sym (q .1))
+pub one-refusal : (number at : ℕ) (room : List ℕ) (a b : Text) → a ≡ refusalWritten number at room → b ≡ refusalWritten number at room → a ≡ b
+one-refusal number at room a b p q = p ∙ sym q

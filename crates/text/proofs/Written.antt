@@ -8,11 +8,12 @@ use native.Mathlib.Numerals.{add-one}
 use native.Mathlib.Omega.{arith}
 use lib.ListN.{length, getD, drop, set, length-append, length-drop, drop-of-length-le}
 use lib.Seq.{sets, set-comm, drop-at}
-use borrow.Author.Tests.{le-leb, lt-leb}
+use borrow.Author.Tests.{le-ltb, lt-ltb}
+use Rattle.laws.specs.Room.{laid}
 use Rattle.laws.proofs.Writes.{sets-append, sets-front}
 use Rattle.text.specs.Decimal.{digit, decimal}
 use Rattle.text.specs.Reading.{endOf}
-use Rattle.text.specs.Writing.{line, fields, lettered, written}
+use Rattle.text.specs.Writing.{line, fields, lettered, outcome, written}
 use Rattle.text.proofs.Digits.{decimal-one, decimal-more}
 use Rattle.text.proofs.Places.{byte-at}
 
@@ -132,10 +133,12 @@ unfolding lettered
 lettered-length letter ns = rw (fields-line ns) (omega arith)
 
 -- a text written from the front of a room that holds it
-pub written-front : (text room left : List ℕ) → length text ≤ length room → left ≡ sets room 0 text → left ≡ written text room
+pub written-front : (text room left : List ℕ) (long : ℕ) → length text ≤ length room → long ≡ length text → left ≡ sets room 0 text → outcome 0 long left ≡ written text room
 unfolding written
-written-front text room left l e = rw (le-leb (length text) (length room) l) (e ∙ sets-front room text l)
+written-front text room left long l q e =
+    let f : left ≡ laid text room = e ∙ sets-front room text l in
+    rw (le-ltb (length room) (length text) l, q, f)
 
-pub written-not : (text room : List ℕ) → length room < length text → room ≡ written text room
+pub written-not : (text room : List ℕ) → length room < length text → outcome 3 0 room ≡ written text room
 unfolding written
-written-not text room l = rw (lt-leb (length text) (length room) l)
+written-not text room l = rw (lt-ltb (length room) (length text) l)

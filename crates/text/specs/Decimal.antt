@@ -25,8 +25,3 @@ decimal n = decimalTo (suc n) n
 unfoldable pub signed : ℤ → List ℕ
 signed (pos n) = decimal n
 signed (negsuc n) = 45 ∷ decimal (suc n)
-
--- its size, without the sign
-unfoldable pub sizeOf : ℤ → ℕ
-sizeOf (pos n) = n
-sizeOf (negsuc n) = suc n

@@ -4,9 +4,10 @@ ghost use mathlib.Core.List.{_++_, _∷_, []};
 ghost use Prim.Native.Nat.{_+_, _*_, _≤_, _<_};
 ghost use lib.ListN.{length, set};
 ghost use lib.Seq.{sets};
-ghost use Rattle.text.specs.Decimal.{decimal, signed, sizeOf};
+ghost use Rattle.text.specs.Decimal.{decimal, signed};
 ghost use Rattle.text.specs.Writing.{fields, lettered, outcome, refusalWritten};
 use crate::reading::end_of;
+use laws::signed;
 
 // Number 0 and the length of the text if granted, else the refusal's number and 0.
 pub struct Written {
@@ -60,23 +61,13 @@ pub fn write_field(n: u64, end: u8, room: &mut [u8], at: usize) -> usize
     at + count + 1
 }
 
-// The size of a number, without its sign. The least number's size is no signed number, so 1 is added after the turn.
-fn size(n: i64) -> u64
-    ensures { λ r. ⌜ r ≡ sizeOf n ⌝ }
-{
-    if n < 0 {
-        return ((-1 - n) as u64) + 1;
-    }
-    n as u64
-}
-
 // How many bytes a signed number takes.
 pub fn signed_length(n: i64) -> usize
     ensures length { λ r. ⌜ r ≡ length (signed n) ⌝ }
     ensures small { λ r. ⌜ r ≤ 20 ⌝ }
 {
-    let count = digit_count(size(n));
-    if n < 0 {
+    let count = digit_count(signed::size(n));
+    if signed::is_negative(n) {
         return count + 1;
     }
     count
@@ -88,11 +79,11 @@ pub fn write_signed(n: i64, end: u8, room: &mut [u8], at: usize) -> usize
     ensures place { λ r. ⌜ r ≡ at + (length (signed n) + 1) ⌝ }
     ensures text { λ _. ⌜ now (room .exit) ≡ sets (now (room .entry)) at (signed n ++ end ∷ []) ⌝ }
 {
-    if n < 0 {
+    if signed::is_negative(n) {
         room[at] = b'-';
-        return write_field(size(n), end, room, at + 1);
+        return write_field(signed::size(n), end, room, at + 1);
     }
-    write_field(size(n), end, room, at)
+    write_field(signed::size(n), end, room, at)
 }
 
 // Writes numbers that have `more` fields after them in their line, and answers the place behind them.

@@ -4,21 +4,22 @@ use Prim.Native.Nat.{_+_, _*_, _-_, _≤_, _<_}
 use native.Mathlib.Omega.{arith}
 use lib.ListN.{length}
 use borrow.Author.Needs.{needs}
-use Rattle.text.specs.Writing.{fields}
+use Rattle.text.specs.Writing.{fields, lettered}
 use Rattle.text.specs.MeshText.{triangleNumbers, trianglesText}
+use Rattle.text.proofs.Written.{lettered-length}
 use Rattle.text.proofs.LinesWritten.{linesTo, lines-none, lines-length}
 use Rattle.text.proofs.mesh_text.triangles_length.Statement.{statement}
 use Rattle.text.proofs.mesh_text.triangles_length.Tie as tie
 
 abbrev Inv-loop : tie.InvT-loop
 Inv-loop triangles t sum₀ i₀ sum i =
-    (i ≤ t) × (sum ≡ length (linesTo 84 (triangleNumbers triangles) i)) × (sum ≤ 65 * i)
+    (i ≤ t) × (sum ≡ length (linesTo (λ i. lettered 84 (triangleNumbers triangles i)) i)) × (sum ≤ 65 * i)
 
 abbrev μ-loop : tie.MeasureT-loop
 μ-loop triangles t sum₀ i₀ sum i = t - i
 
 loop-holds : tie.Need-loop-holds Inv-loop μ-loop
-loop-holds c = (omega arith, sym (ap length (lines-none 84 (triangleNumbers (c .before .args .triangles .now)))), omega arith)
+loop-holds c = (omega arith, sym (ap length (lines-none (λ i. lettered 84 (triangleNumbers (c .before .args .triangles .now) i)))), omega arith)
 
 triangle-numbers-requires : tie.Need-triangle-numbers-requires Inv-loop μ-loop
 triangle-numbers-requires c κs = omega arith
@@ -47,7 +48,7 @@ loop-again c =
     let l = p .before .before in
     let a = l .before .before .args in (
       omega arith,
-      omega (arith, l .loop .inv .1, c .fields-length .ensures .0, ap (λ n. length (fields 0 n)) (p .triangle-numbers .ensures), lines-length 84 (triangleNumbers (a .triangles .now)) (l .loop .i)),
+      omega (arith, l .loop .inv .1, c .fields-length .ensures .0, ap (λ n. length (fields 0 n)) (p .triangle-numbers .ensures), lines-length (λ i. lettered 84 (triangleNumbers (a .triangles .now) i)) (l .loop .i), lettered-length 84 (triangleNumbers (a .triangles .now) (l .loop .i))),
       omega (arith, l .loop .inv .2, c .fields-length .ensures .1, ap length (p .triangle-numbers .ensures)),
     )
 
@@ -57,7 +58,7 @@ returns c =
     let l = c .before in
     let a = l .before .before .args in
     let e : l .loop .i ≡ a .t = omega arith in
-    (l .loop .inv .1 ∙ ap (λ k. length (linesTo 84 (triangleNumbers (a .triangles .now)) k)) e, omega arith)
+    (l .loop .inv .1 ∙ ap (λ k. length (linesTo (λ i. lettered 84 (triangleNumbers (a .triangles .now) i)) k)) e, omega arith)
 
 pub triangles-length-spec : {M : Type 1} → statement M
 triangles-length-spec =

@@ -1,6 +1,7 @@
 -- `text::writing::write_refusal` meets its contract: the length first, then the line. Assumes nothing.
 use mathlib.Core.Path.{_≡_, sym, _∙_}
 use mathlib.Core.List.{_∷_, []}
+use Prim.Native.Nat.{_+_}
 use native.Mathlib.Omega.{arith}
 use lib.ListN.{length}
 use Rattle.text.specs.Writing.{lettered, refusalText}
@@ -18,13 +19,18 @@ fields-length-requires c κs = search needs
 add-length : tie.Need-add-length
 add-length c = omega (arith, c .fields-length .ensures .1)
 
+refused-requires : tie.Need-refused-requires
+refused-requires c κs = search needs
+
 returns : tie.Need-returns
 unfolding refusalText
 returns c =
-    let f = c .before in
+    let t = c .before in
+    let f = t .before in
     let a = f .before .before .before .args in
-    let l = lettered-length 82 (a .number ∷ a .line ∷ []) in
-    (omega (arith, f .fields-length .ensures .0, l), written-not (lettered 82 (a .number ∷ a .line ∷ [])) (a .room .now) (omega (arith, f .fields-length .ensures .0, l, c .if1 .taken)))
+    let ns = a .number ∷ a .line ∷ [] in
+    rw (c .refused .ensures)
+    (written-not (lettered 82 ns) (a .room .now) (omega (arith, f .fields-length .ensures .0, lettered-length 82 ns, t .if1 .taken)))
 
 slice-aggregate-write-lettered : tie.Need-slice-aggregate-write-lettered
 slice-aggregate-write-lettered c = search needs
@@ -42,10 +48,13 @@ returns-2 : tie.Need-returns-2
 unfolding refusalText
 returns-2 c =
     let w = c .before .before in
-    let f = w .before .before .before .before in
+    let e = w .before .before .before in
+    let f = e .before in
     let a = f .before .before .before .args in
-    let l = lettered-length 82 (a .number ∷ a .line ∷ []) in
-    (omega (arith, w .write-lettered .ensures .0), written-front (lettered 82 (a .number ∷ a .line ∷ [])) (a .room .now) (w .write-lettered .last .1 .1 .0) (omega (arith, f .fields-length .ensures .0, l, w .before .before .before .if1 .left)) (w .write-lettered .ensures .1))
+    let ns = a .number ∷ a .line ∷ [] in
+    let l = lettered-length 82 ns in
+    written-front (lettered 82 ns) (a .room .now) (w .write-lettered .last .1 .1 .0) (2 + f .fields-length .result)
+    (omega (arith, f .fields-length .ensures .0, l, e .if1 .left)) (omega (arith, f .fields-length .ensures .0, l)) (w .write-lettered .ensures .1)
 
 pub write-refusal-spec : {M : Type 1} → statement M
 write-refusal-spec =
@@ -54,6 +63,7 @@ write-refusal-spec =
     slice-aggregate-fields-length
     fields-length-requires
     add-length
+    refused-requires
     returns
     slice-aggregate-write-lettered
     write-lettered-requires
