@@ -1,7 +1,8 @@
 -- The text of a mesh (document 01, "The program for small grids", output).
+use mathlib.Core.Path.{_≡_}
 use mathlib.Core.List.{List, [], _∷_, _++_}
 use mathlib.Core.Bool.{Bool, cond, not, _&&_}
-use Prim.Native.Nat.{ℕ, _+_, _*_, _/_, _%_}
+use Prim.Native.Nat.{ℕ, _+_, _*_, _/_, _%_, _≤_}
 use lib.Dec.{eqb, leb}
 use lib.ListN.{length, getD}
 use lib.IntN.{ℤ, pos}
@@ -57,8 +58,16 @@ listsFit points edges marks triangles =
 unfoldable pub recordsFit : ℕ → ℕ → Bool
 recordsFit records volumes = eqb records (4 * volumes) && leb volumes mostPoints
 
+-- so many bytes hold the text of any mesh of so many points, triangles and shells: a number and the byte that ends it take at most 21
+abbrev pub longest : ℕ → ℕ → ℕ → ℕ
+longest points triangles shells = 65 + 107 * points + 65 * triangles + 107 * shells
+
 unfoldable pub meshWritten : List ℕ → List ℕ → List ℕ → List ℕ → List ℕ → List ℤ → List ℕ → Outcome
 meshWritten points edges marks triangles records volumes room =
     cond (not (listsFit (length points) (length edges) (length marks) (length triangles))) (outcome 6 0 room)
     (cond (not (recordsFit (length records) (length volumes))) (outcome 6 0 room)
     (written (meshText points edges marks triangles records volumes) room))
+
+-- a room that holds the longest text is not too short
+abbrev pub Holds : ℕ → ℕ → ℕ → ℕ → ℕ → Type 0
+Holds points triangles shells room number = longest points triangles shells ≤ room → number ≡ 3 → ⊥

@@ -1,6 +1,7 @@
 -- Lines of numbers as text, and a text in a lent room.
+use mathlib.Core.Path.{_≡_}
 use mathlib.Core.List.{List, [], _∷_, _++_}
-use Prim.Native.Nat.{ℕ, _+_}
+use Prim.Native.Nat.{ℕ, _+_, _≤_}
 use mathlib.Core.Bool.{cond}
 use lib.Dec.{ltb}
 use lib.ListN.{length}
@@ -44,3 +45,10 @@ written text room = cond (ltb (length room) (length text)) (outcome 3 0 room) (o
 
 abbrev pub refusalWritten : ℕ → ℕ → List ℕ → Outcome
 refusalWritten number at room = written (refusalText number at) room
+
+-- so many bytes hold any refusal's line
+abbrev pub longestRefusal : ℕ
+longestRefusal = 44
+
+abbrev pub HoldsRefusal : ℕ → ℕ → Type 0
+HoldsRefusal room number = longestRefusal ≤ room → number ≡ 3 → ⊥

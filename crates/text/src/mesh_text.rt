@@ -1,12 +1,12 @@
 // The lines of a mesh: points, triangles and shells, measured and written.
 ghost use mathlib.Core.Path.{_≡_};
 ghost use mathlib.Core.Bool.{true};
-ghost use Prim.Native.Nat.{_+_, _*_, _≤_, _<_};
+ghost use Prim.Native.Nat.{_+_, _*_, _/_, _≤_, _<_};
 ghost use lib.ListN.{length};
 ghost use lib.Seq.{sets};
 ghost use Rattle.grid.specs.Limits.{mostPoints, mostTriangles};
 ghost use Rattle.text.specs.Writing.{outcome};
-ghost use Rattle.text.specs.MeshText.{pointNumbers, pointsText, triangleNumbers, trianglesText, shellNumbers, shellText, shellsText, linesOf, listsFit, recordsFit, meshWritten};
+ghost use Rattle.text.specs.MeshText.{pointNumbers, pointsText, triangleNumbers, trianglesText, shellNumbers, shellText, shellsText, linesOf, listsFit, recordsFit, longest, Holds, meshWritten};
 use crate::writing::Written;
 use crate::writing::fields_length;
 use crate::writing::refused;
@@ -214,7 +214,8 @@ fn mesh_length(
     requires { ⌜ listsFit (length (now points)) (length (now edges)) (length (now marks)) (length (now triangles)) ≡ true ⌝ }
     requires { ⌜ recordsFit (length (now records)) (length (now volumes)) ≡ true ⌝ }
     requires { ⌜ length (now counts) ≡ 3 ⌝ }
-    ensures { λ r. ⌜ r ≡ length (linesOf (now (counts .entry)) (now (points .entry)) (now (edges .entry)) (now (marks .entry)) (now (triangles .entry)) (now (records .entry)) (now (volumes .entry))) ⌝ }
+    ensures small { λ r. ⌜ r ≤ longest (length (now (marks .entry))) (length (now (triangles .entry)) / 3) (length (now (volumes .entry))) ⌝ }
+    ensures length { λ r. ⌜ r ≡ length (linesOf (now (counts .entry)) (now (points .entry)) (now (edges .entry)) (now (marks .entry)) (now (triangles .entry)) (now (records .entry)) (now (volumes .entry))) ⌝ }
 {
     let head = 2 + fields_length(counts);
     let middle = points_length(points, edges, marks, marks.len());
@@ -255,7 +256,8 @@ pub fn write_mesh(
     volumes: &[i64],
     room: &mut [u8],
 ) -> Written
-    ensures { λ r. ⌜ outcome (r .number) (r .length) (now (room .exit)) ≡ meshWritten (now (points .entry)) (now (edges .entry)) (now (marks .entry)) (now (triangles .entry)) (now (records .entry)) (now (volumes .entry)) (now (room .entry)) ⌝ }
+    ensures holds { λ r. ⌜ Holds (length (now (marks .entry))) (length (now (triangles .entry)) / 3) (length (now (volumes .entry))) (length (now (room .entry))) (r .number) ⌝ }
+    ensures text { λ r. ⌜ outcome (r .number) (r .length) (now (room .exit)) ≡ meshWritten (now (points .entry)) (now (edges .entry)) (now (marks .entry)) (now (triangles .entry)) (now (records .entry)) (now (volumes .entry)) (now (room .entry)) ⌝ }
 {
     if !lists_fit(points.len(), edges.len(), marks.len(), triangles.len()) {
         return refused(6);

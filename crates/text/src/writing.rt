@@ -5,7 +5,7 @@ ghost use Prim.Native.Nat.{_+_, _*_, _≤_, _<_};
 ghost use lib.ListN.{length, set};
 ghost use lib.Seq.{sets};
 ghost use Rattle.text.specs.Decimal.{decimal, signed};
-ghost use Rattle.text.specs.Writing.{fields, lettered, outcome, refusalWritten};
+ghost use Rattle.text.specs.Writing.{fields, lettered, outcome, refusalWritten, HoldsRefusal};
 use crate::reading::end_of;
 use laws::signed;
 
@@ -135,7 +135,8 @@ pub fn write_lettered(letter: u8, numbers: &[u32], room: &mut [u8], at: usize) -
 
 // Writes a refusal's line to the front of the room, and answers its length. A room that is too short is refused with 3, and stays.
 pub fn write_refusal(number: u32, line: u32, room: &mut [u8]) -> Written
-    ensures { λ r. ⌜ outcome (r .number) (r .length) (now (room .exit)) ≡ refusalWritten number line (now (room .entry)) ⌝ }
+    ensures holds { λ r. ⌜ HoldsRefusal (length (now (room .entry))) (r .number) ⌝ }
+    ensures text { λ r. ⌜ outcome (r .number) (r .length) (now (room .exit)) ≡ refusalWritten number line (now (room .entry)) ⌝ }
 {
     let numbers = [number, line];
     let length = 2 + fields_length(&numbers);

@@ -54,8 +54,11 @@ returns c =
     let t = c .before in
     let p = t .before in
     let f = p .before in
-    let a = begun f .args in
-    omega (arith, f .fields-length .ensures .0, p .points-length .ensures .0, t .triangles-length .ensures .0, c .shells-length .ensures .0, lines-of-length (a .counts .now) (a .points .now) (a .edges .now) (a .marks .now) (a .triangles .now) (a .records .now) (a .volumes .now))
+    let s = begun f in
+    let a = s .args in (
+      omega (arith, f .fields-length .ensures .1, p .points-length .ensures .1, t .triangles-length .ensures .1, c .shells-length .ensures .1, s .pre .1 .1),
+      omega (arith, f .fields-length .ensures .0, p .points-length .ensures .0, t .triangles-length .ensures .0, c .shells-length .ensures .0, lines-of-length (a .counts .now) (a .points .now) (a .edges .now) (a .marks .now) (a .triangles .now) (a .records .now) (a .volumes .now)),
+    )
 
 pub mesh-length-spec : {M : Type 1} → statement M
 mesh-length-spec =

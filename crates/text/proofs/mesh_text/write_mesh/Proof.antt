@@ -1,11 +1,12 @@
 -- `text::mesh_text::write_mesh` meets its contract: the lists, the records, the length, and then the lines. Assumes nothing.
-use mathlib.Core.Path.{_≡_, refl, sym, _∙_}
+use mathlib.Core.Path.{_≡_, refl, ap, sym, _∙_}
 use mathlib.Core.Bool.{true}
 use Prim.Native.Nat.{_*_, _/_, _≤_}
 use native.Mathlib.Omega.{arith}
 use lib.ListN.{length}
 use Rattle.grid.specs.Limits.{mostPoints, mostTriangles}
 use borrow.Author.Tests.{not-true, not-false}
+use Rattle.text.specs.declared.writing.Written.{Written}
 use Rattle.text.specs.MeshText.{meshText, listsFit, recordsFit}
 use Rattle.text.proofs.Written.{written-front, written-not}
 use Rattle.text.proofs.MeshTexts.{lists-fit, records-fit, mesh-refused, records-refused, mesh-written}
@@ -28,6 +29,10 @@ facts c =
     let l = lists-fit (length (a .points .now)) (length (a .edges .now)) (length (a .marks .now)) (length (a .triangles .now)) (fit (c .before .before)) in
     (l .2, l .3, records-fit (length (a .records .now)) (length (a .volumes .now)) (recorded c) .1)
 
+-- a refusal with 6 is none with 3
+six : {r : Written} → r ≡ record { number = 6; length = 0 } → r .number ≡ 3 → ⊥
+six e t = omega (arith, sym (ap (λ w. w .number) e) ∙ t)
+
 lists-fit-requires : tie.Need-lists-fit-requires
 lists-fit-requires c κs = search needs
 
@@ -38,7 +43,7 @@ returns : tie.Need-returns
 returns c =
     let f = c .before .before in
     let a = begun f .args in
-    rw (c .refused .ensures) (mesh-refused (a .points .now) (a .edges .now) (a .marks .now) (a .triangles .now) (a .records .now) (a .volumes .now) (a .room .now) (sym (f .lists-fit .ensures) ∙ not-true _ (c .before .if1 .taken)))
+    (λ l t. absurd (six (c .refused .ensures) t), rw (c .refused .ensures) (mesh-refused (a .points .now) (a .edges .now) (a .marks .now) (a .triangles .now) (a .records .now) (a .volumes .now) (a .room .now) (sym (f .lists-fit .ensures) ∙ not-true _ (c .before .if1 .taken))))
 
 records-fit-requires : tie.Need-records-fit-requires
 records-fit-requires c κs = search needs
@@ -50,7 +55,7 @@ returns-2 : tie.Need-returns-2
 returns-2 c =
     let r = c .before .before in
     let a = begun (r .before .before) .args in
-    rw (c .refused2 .ensures) (records-refused (a .points .now) (a .edges .now) (a .marks .now) (a .triangles .now) (a .records .now) (a .volumes .now) (a .room .now) (fit (r .before)) (sym (r .records-fit .ensures) ∙ not-true _ (c .before .if2 .taken)))
+    (λ l t. absurd (six (c .refused2 .ensures) t), rw (c .refused2 .ensures) (records-refused (a .points .now) (a .edges .now) (a .marks .now) (a .triangles .now) (a .records .now) (a .volumes .now) (a .room .now) (fit (r .before)) (sym (r .records-fit .ensures) ∙ not-true _ (c .before .if2 .taken))))
 
 cast-t16 : tie.Need-cast-t16
 cast-t16 c = omega (arith, facts c)
@@ -74,9 +79,11 @@ returns-3 : tie.Need-returns-3
 returns-3 c =
     let m = c .before .before in
     let e = m .before .before in
-    let a = begun (e .before .before .before) .args in
-    rw (c .refused3 .ensures)
-    (written-not (meshText (a .points .now) (a .edges .now) (a .marks .now) (a .triangles .now) (a .records .now) (a .volumes .now)) (a .room .now) (omega (arith, m .mesh-length .ensures, c .before .if3 .taken)) ∙ mesh-written (a .points .now) (a .edges .now) (a .marks .now) (a .triangles .now) (a .records .now) (a .volumes .now) (a .room .now) (fit (e .before .before)) (recorded e))
+    let a = begun (e .before .before .before) .args in (
+      λ l t. absurd (omega (arith, l, m .mesh-length .ensures .0, c .before .if3 .taken)),
+      rw (c .refused3 .ensures)
+          (written-not (meshText (a .points .now) (a .edges .now) (a .marks .now) (a .triangles .now) (a .records .now) (a .volumes .now)) (a .room .now) (omega (arith, m .mesh-length .ensures .1, c .before .if3 .taken)) ∙ mesh-written (a .points .now) (a .edges .now) (a .marks .now) (a .triangles .now) (a .records .now) (a .volumes .now) (a .room .now) (fit (e .before .before)) (recorded e)),
+    )
 
 slice-aggregate-write-lines : tie.Need-slice-aggregate-write-lines
 slice-aggregate-write-lines c = search needs
@@ -86,7 +93,7 @@ write-lines-requires c κs =
     let o = c .before .before in
     let m = o .before in
     let e = m .before .before in
-    (fit (e .before .before), (recorded e, omega (arith, m .mesh-length .ensures, o .if3 .left)))
+    (fit (e .before .before), (recorded e, omega (arith, m .mesh-length .ensures .1, o .if3 .left)))
 
 same-length : tie.Need-same-length
 same-length c = search needs
@@ -97,10 +104,12 @@ returns-4 c =
     let o = w .before .before .before in
     let m = o .before in
     let e = m .before .before in
-    let a = begun (e .before .before .before) .args in
-    written-front (meshText (a .points .now) (a .edges .now) (a .marks .now) (a .triangles .now) (a .records .now) (a .volumes .now)) (a .room .now) (w .write-lines .last .1 .1 .1 .1 .1 .1 .1 .0) (m .mesh-length .result)
-    (omega (arith, m .mesh-length .ensures, o .if3 .left)) (m .mesh-length .ensures) (w .write-lines .ensures)
-    ∙ mesh-written (a .points .now) (a .edges .now) (a .marks .now) (a .triangles .now) (a .records .now) (a .volumes .now) (a .room .now) (fit (e .before .before)) (recorded e)
+    let a = begun (e .before .before .before) .args in (
+      λ l t. absurd (omega (arith, t)),
+      written-front (meshText (a .points .now) (a .edges .now) (a .marks .now) (a .triangles .now) (a .records .now) (a .volumes .now)) (a .room .now) (w .write-lines .last .1 .1 .1 .1 .1 .1 .1 .0) (m .mesh-length .result)
+          (omega (arith, m .mesh-length .ensures .1, o .if3 .left)) (m .mesh-length .ensures .1) (w .write-lines .ensures)
+          ∙ mesh-written (a .points .now) (a .edges .now) (a .marks .now) (a .triangles .now) (a .records .now) (a .volumes .now) (a .room .now) (fit (e .before .before)) (recorded e),
+    )
 
 pub write-mesh-spec : {M : Type 1} → statement M
 write-mesh-spec =

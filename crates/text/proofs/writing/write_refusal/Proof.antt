@@ -28,9 +28,11 @@ returns c =
     let t = c .before in
     let f = t .before in
     let a = f .before .before .before .args in
-    let ns = a .number ∷ a .line ∷ [] in
-    rw (c .refused .ensures)
-    (written-not (lettered 82 ns) (a .room .now) (omega (arith, f .fields-length .ensures .0, lettered-length 82 ns, t .if1 .taken)))
+    let ns = a .number ∷ a .line ∷ [] in (
+      λ l e. absurd (omega (arith, l, f .fields-length .ensures .1, t .if1 .taken)),
+      rw (c .refused .ensures)
+          (written-not (lettered 82 ns) (a .room .now) (omega (arith, f .fields-length .ensures .0, lettered-length 82 ns, t .if1 .taken))),
+    )
 
 slice-aggregate-write-lettered : tie.Need-slice-aggregate-write-lettered
 slice-aggregate-write-lettered c = search needs
@@ -52,9 +54,11 @@ returns-2 c =
     let f = e .before in
     let a = f .before .before .before .args in
     let ns = a .number ∷ a .line ∷ [] in
-    let l = lettered-length 82 ns in
-    written-front (lettered 82 ns) (a .room .now) (w .write-lettered .last .1 .1 .0) (2 + f .fields-length .result)
-    (omega (arith, f .fields-length .ensures .0, l, e .if1 .left)) (omega (arith, f .fields-length .ensures .0, l)) (w .write-lettered .ensures .1)
+    let l = lettered-length 82 ns in (
+      λ l t. absurd (omega (arith, t)),
+      written-front (lettered 82 ns) (a .room .now) (w .write-lettered .last .1 .1 .0) (2 + f .fields-length .result)
+          (omega (arith, f .fields-length .ensures .0, l, e .if1 .left)) (omega (arith, f .fields-length .ensures .0, l)) (w .write-lettered .ensures .1),
+    )
 
 pub write-refusal-spec : {M : Type 1} → statement M
 write-refusal-spec =
