@@ -25,7 +25,8 @@ fn lay(s: Shell, n: usize, records: &mut [u32], volumes: &mut [i64])
     records[at + 1] = s.points;
     records[at + 2] = s.triangles;
     records[at + 3] = s.touches;
-    volumes[n] = s.volume;
+    let volume = s.volume;
+    volumes[n] = volume;
 }
 
 // Hands record n on.
