@@ -1,24 +1,23 @@
--- Records handed on: none, one more; as many as the promise of `shells::shells` says there are, and each as it says.
+-- Records handed on: none, one more, and as many as `shells::shells` answers; so what it promises of its records is said of the numbers and the volumes.
 use mathlib.Core.Path.{_≡_, refl, ap, sym, _∙_, subst}
-use mathlib.Core.List.{List, [], _∷_, _++_}
-use mathlib.Core.Bool.{cond}
+use mathlib.Core.List.{List}
 use Prim.Native.Nat.{ℕ, zero, suc, _+_, _*_, _<_, _≤_}
 use native.Mathlib.Omega.{arith}
 use borrow.Author.Tests.{eq-eqb}
 use lib.IntN.{ℤ}
 use lib.ListN.{length, getD, set, length-append}
 use lib.Seq.{sets}
-use Rattle.laws.specs.Range.{joinTo, sumTo}
+use Rattle.laws.specs.Range.{joinTo}
 use Rattle.laws.specs.Room.{laid}
 use Rattle.laws.specs.Values.{listTo}
-use Rattle.laws.proofs.Ranges.{join-next, join-cong, length-join}
+use Rattle.laws.proofs.Ranges.{join-next, join-cong}
 use Rattle.laws.proofs.Rooms.{length-laid}
 use Rattle.laws.proofs.Values.{laid-none, laid-more, laid-at, list-cong, length-list}
 use Rattle.laws.proofs.Writes.{sets-append, sets-front}
 use Rattle.shells.specs.declared.Shell.{Shell}
 use Rattle.shells.specs.Grown.{none}
 use Rattle.shells.specs.Record.{recordOf}
-use Rattle.shells.specs.Promise.{Outcome, left, Lists, Shells, recordsAfter, refused, crowded, granted}
+use Rattle.shells.specs.Promise.{Outcome, Lists, Shells, recordsAfter, refused, crowded, granted}
 use Rattle.listing.specs.Listing.{mostListed, numbersOf, numbersHanded, volumesHanded, Listing}
 
 -- four numbers a record
@@ -27,6 +26,7 @@ unfolding joinTo
 long zero shell = refl
 long (suc n) shell = simp length-append (omega (arith, long n shell))
 
+-- the numbers' room: nothing handed on, one record more, and as long as it was
 pub numbers-none : (shell : ℕ → Shell) (room : List ℕ) → room ≡ numbersHanded 0 shell room
 unfolding numbersHanded joinTo laid
 numbers-none shell room = refl
@@ -35,16 +35,21 @@ pub numbers-more : (n : ℕ) (shell : ℕ → Shell) (room : List ℕ) → 4 * n
     → sets (numbersHanded n shell room) (4 * n) (numbersOf (shell n)) ≡ numbersHanded (n + 1) shell room
 unfolding numbersHanded
 numbers-more n shell room h =
-    let xs = joinTo n (λ k. numbersOf (shell k)) in
-    let front : laid xs room ≡ sets room 0 xs = sym (sets-front room xs (omega (arith, long n shell))) in
-    let at : 4 * n ≡ 0 + length xs = omega (arith, long n shell) in
-    let next : laid (joinTo (n + 1) (λ k. numbersOf (shell k))) room ≡ sets room 0 (joinTo (n + 1) (λ k. numbersOf (shell k))) = sym (sets-front room (joinTo (n + 1) (λ k. numbersOf (shell k))) (omega (arith, long (n + 1) shell))) in
-    ap (λ l. sets l (4 * n) (numbersOf (shell n))) front ∙ ap (λ i. sets (sets room 0 xs) i (numbersOf (shell n))) at ∙ sets-append room 0 xs (numbersOf (shell n)) ∙ ap (sets room 0) (sym (join-next n (λ k. numbersOf (shell k)))) ∙ sym next
+    let f : ℕ → List ℕ = λ k. numbersOf (shell k) in
+    let now : laid (joinTo n f) room ≡ sets room 0 (joinTo n f) = sym (sets-front room (joinTo n f) (omega (arith, long n shell))) in
+    let next : sets room 0 (joinTo (n + 1) f) ≡ laid (joinTo (n + 1) f) room = sets-front room (joinTo (n + 1) f) (omega (arith, long (n + 1) shell)) in
+    let end : 4 * n ≡ 0 + length (joinTo n f) = omega (arith, long n shell) in
+    ap (λ l. sets l (4 * n) (f n)) now
+    ∙ ap (λ i. sets (sets room 0 (joinTo n f)) i (f n)) end
+    ∙ sets-append room 0 (joinTo n f) (f n)
+    ∙ ap (sets room 0) (sym (join-next n f))
+    ∙ next
 
 pub numbers-long : (n : ℕ) (shell : ℕ → Shell) (room : List ℕ) → 4 * n ≤ length room → length (numbersHanded n shell room) ≡ length room
 unfolding numbersHanded
 numbers-long n shell room h = length-laid (joinTo n (λ k. numbersOf (shell k))) room (omega (arith, long n shell))
 
+-- and the volumes'
 pub volumes-none : (shell : ℕ → Shell) (room : List ℤ) → room ≡ volumesHanded 0 shell room
 unfolding volumesHanded
 volumes-none shell room = sym (laid-none (λ n. shell n .volume) room)
@@ -58,7 +63,7 @@ pub volumes-long : (n : ℕ) (shell : ℕ → Shell) (room : List ℤ) → n ≤
 unfolding volumesHanded
 volumes-long n shell room h = length-laid (listTo n (λ k. shell k .volume)) room (omega (arith, length-list n (λ k. shell k .volume)))
 
--- as many records as asked, each the same
+-- records that are the same one by one
 module _ (n : ℕ) (shell other : ℕ → Shell) (same : (k : ℕ) → k < n → shell k ≡ other k) where
   numbers-same : (room : List ℕ) → numbersHanded n shell room ≡ numbersHanded n other room
   unfolding numbersHanded

@@ -6,7 +6,7 @@ use lib.IntN.{ℤ}
 use lib.Seq.{sets}
 use denote.Builtin.{i64}
 use Rattle.shells.proofs.Slices.{uint-elem, Mut as MutOf, ref as refOf, lends, comes}
-use Rattle.shells.proofs.Records.{R, typed}
+use Rattle.shells.proofs.Records.{R}
 use Rattle.shells.specs.declared.Shell.{Shell}
 use Rattle.shells.specs.Grown.{none}
 use Rattle.listing.specs.Listing.{numbersOf, numbersHanded, volumesHanded}
