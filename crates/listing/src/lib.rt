@@ -17,22 +17,22 @@ pub const MOST_LISTED: usize = 3 * (MOST_SMALL as usize);
 // Lays a record down as its four numbers and its volume.
 fn lay(s: Shell, n: usize, records: &mut [u32], volumes: &mut [i64])
     requires { ⌜ (4 * n + 3 < length (now records)) × (n < length (now volumes)) ⌝ }
-    ensures { λ _. ⌜ now (records .exit) ≡ sets (now (records .entry)) (4 * n) (numbersOf s) ⌝ }
-    ensures { λ _. ⌜ now (volumes .exit) ≡ set (now (volumes .entry)) n (s .volume) ⌝ }
+    ensures { λ _. ⌜ (now (records .exit) ≡ sets (now (records .entry)) (4 * n) (numbersOf s)) × (now (volumes .exit) ≡ set (now (volumes .entry)) n (s .volume)) ⌝ }
 {
     let at = 4 * n;
     records[at] = s.low;
     records[at + 1] = s.points;
     records[at + 2] = s.triangles;
     records[at + 3] = s.touches;
-    volumes[n] = s.volume;
+    let volume = s.volume;
+    volumes[n] = volume;
 }
 
 // Hands record n on.
 fn hand(shells: &[Shell], n: usize, records: &mut [u32], volumes: &mut [i64])
     requires { ⌜ (n < length (now shells)) × (4 * n + 3 < length (now records)) × (n < length (now volumes)) ⌝ }
-    ensures { λ _. ⌜ now (records .exit) ≡ sets (now (records .entry)) (4 * n) (numbersOf (getD (now (shells .entry)) n none)) ⌝ }
-    ensures { λ _. ⌜ now (volumes .exit) ≡ set (now (volumes .entry)) n (getD (now (shells .entry)) n none .volume) ⌝ }
+    ensures { λ _. ⌜ (now (records .exit) ≡ sets (now (records .entry)) (4 * n) (numbersOf (getD (now (shells .entry)) n none)))
+        × (now (volumes .exit) ≡ set (now (volumes .entry)) n (getD (now (shells .entry)) n none .volume)) ⌝ }
 {
     let s = shells[n];
     lay(s, n, records, volumes);
@@ -41,8 +41,8 @@ fn hand(shells: &[Shell], n: usize, records: &mut [u32], volumes: &mut [i64])
 // Hands the first records on.
 fn hand_on(shells: &[Shell], count: usize, records: &mut [u32], volumes: &mut [i64])
     requires { ⌜ (count ≤ length (now shells)) × (4 * count ≤ length (now records)) × (count ≤ length (now volumes)) ⌝ }
-    ensures { λ _. ⌜ now (records .exit) ≡ numbersHanded count (λ n. getD (now (shells .entry)) n none) (now (records .entry)) ⌝ }
-    ensures { λ _. ⌜ now (volumes .exit) ≡ volumesHanded count (λ n. getD (now (shells .entry)) n none) (now (volumes .entry)) ⌝ }
+    ensures { λ _. ⌜ (now (records .exit) ≡ numbersHanded count (λ n. getD (now (shells .entry)) n none) (now (records .entry)))
+        × (now (volumes .exit) ≡ volumesHanded count (λ n. getD (now (shells .entry)) n none) (now (volumes .entry))) ⌝ }
 {
     let mut n = 0;
     while n < count {
