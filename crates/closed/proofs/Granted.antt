@@ -17,10 +17,11 @@ use Rattle.laws.proofs.Rows.{length-rows, entry-at}
 use Rattle.grid.specs.Limits.{mostPoints, mostTriangles}
 use Rattle.grid.specs.Grid.{Size, axes, sampleCount, edgeCount, mark}
 use Rattle.grid.specs.Point.{place}
+use Rattle.grid.specs.Sides.{sidesFit}
 use Rattle.grid.specs.Work.{size, SidesFit}
-use Rattle.extract.specs.Outcome.{Rooms, Outcome, refused, cleared, sidesFit, pointList, triangleList, pointRoom, triangleRoom, granted, measured, extracted}
+use Rattle.grid.proofs.Sides.{sides-within}
+use Rattle.extract.specs.Outcome.{Rooms, Outcome, refused, cleared, pointList, triangleList, pointRoom, triangleRoom, granted, measured, extracted}
 use Rattle.extract.specs.Promise.{Extracts}
-use Rattle.extract.proofs.Refusals.{sides-within}
 use Rattle.mesh.specs.Mesh.{triangleCount, triangleAt, trianglesOf}
 use Rattle.closed.specs.Left.{meshLeft, edgesLeft}
 

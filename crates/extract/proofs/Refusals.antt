@@ -10,25 +10,12 @@ use lib.ListN.{length}
 use borrow.Author.Tests.{leb-true, eq-eqb, ne-eqb}
 use Rattle.laws.proofs.Tests.{both}
 use Rattle.grid.specs.Limits.{leastSide, mostSide}
+use Rattle.grid.specs.Sides.{sidesFit}
 use Rattle.grid.specs.Grid.{axes, sampleCount, edgeCount}
 use Rattle.grid.specs.Work.{size, SidesFit}
-use Rattle.extract.specs.Outcome.{Rooms, Outcome, refused, sideFits, sidesFit, measured, extracted}
+use Rattle.extract.specs.Outcome.{Rooms, Outcome, refused, measured, extracted}
 use Rattle.extract.specs.Promise.{left}
 use Rattle.extract.proofs.Ways.{rows-most}
-
-side-within : (n : ℕ) → sideFits n ≡ true → (leastSide ≤ n) × (n ≤ mostSide)
-unfolding sideFits
-side-within n h = let s = both (leb leastSide n) (leb n mostSide) h in (leb-true leastSide n (s .0), leb-true n mostSide (s .1))
-
-pub sides-within : (nx ny nz : ℕ) → sidesFit nx ny nz ≡ true → SidesFit nx ny nz
-unfolding sidesFit
-sides-within nx ny nz h =
-    let s = both (sideFits nx) (sideFits ny && sideFits nz) h in
-    let t = both (sideFits ny) (sideFits nz) (s .1) in
-    let x = side-within nx (s .0) in
-    let y = side-within ny (t .0) in
-    let z = side-within nz (t .1) in
-    record { least-x = x .0; most-x = x .1; least-y = y .0; most-y = y .1; least-z = z .0; most-z = z .1 }
 
 -- no grid has more samples than this
 pub samples-most : (nx ny nz : ℕ) → SidesFit nx ny nz → nx * (ny * nz) ≤ 262144

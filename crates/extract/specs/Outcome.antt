@@ -1,12 +1,13 @@
 -- What a call of the extractor leaves behind (document 01, "Points and order" and "Numbers that refuse").
 use mathlib.Core.List.{List, map, flatMap}
-use mathlib.Core.Bool.{Bool, cond, not, _&&_, _||_}
+use mathlib.Core.Bool.{Bool, cond, not}
 use Prim.Native.Nat.{ℕ, _*_, _/_, min}
-use lib.Dec.{eqb, leb, ltb}
+use lib.Dec.{eqb, ltb}
 use lib.ListN.{length, replicate}
 use Rattle.laws.specs.Room.{laid}
 use Rattle.laws.specs.Mesh.{Triangle, flat}
-use Rattle.grid.specs.Limits.{leastSide, mostSide, mostPoints, mostTriangles}
+use Rattle.grid.specs.Limits.{mostPoints, mostTriangles}
+use Rattle.grid.specs.Sides.{sidesFit}
 use Rattle.grid.specs.Grid.{Size, axes, sampleCount, edgeCount, isAboveGrey, mark}
 use Rattle.grid.specs.Point.{pointEdges, place}
 use Rattle.grid.specs.Mesh.{mesh}
@@ -35,12 +36,6 @@ refused number rooms = record { number = number; pointCount = 0; triangleCount =
 unfoldable pub cleared : Rooms → Rooms
 cleared r =
     record { points = r .points; edges = r .edges; marks = r .marks; triangles = r .triangles; work = replicate (length (r .work)) 0 }
-
-unfoldable pub sideFits : ℕ → Bool
-sideFits n = leb leastSide n && leb n mostSide
-
-unfoldable pub sidesFit : ℕ → ℕ → ℕ → Bool
-sidesFit nx ny nz = sideFits nx && (sideFits ny && sideFits nz)
 
 module _ (n : Size) (grey : ℕ) (samples : List ℕ) (r : Rooms) where
   -- the crossed grid edges in rising order, a point on each, and the triangles

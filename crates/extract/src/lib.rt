@@ -5,11 +5,8 @@ ghost use lib.Dec.{ltb};
 ghost use lib.ListN.{length, replicate};
 ghost use Rattle.grid.specs.Grid.{axes, sampleCount, edgeCount};
 ghost use Rattle.grid.specs.Work.{size, SidesFit};
-ghost use Rattle.extract.specs.Outcome.{sideFits, sidesFit};
 ghost use Rattle.extract.specs.Promise.{rooms, left, Extracts, Measures};
-use grid::limits::LEAST_SIDE;
 use grid::limits::MOST_POINTS;
-use grid::limits::MOST_SIDE;
 use grid::limits::MOST_TRIANGLES;
 
 // Number 0 and the two counts if granted, else the refusal's number and zero counts.
@@ -17,26 +14,6 @@ pub struct Extracted {
     pub number: u32,
     pub points: u32,
     pub triangles: u32,
-}
-
-fn side_fits(side: u32) -> bool
-    ensures { λ r. ⌜ r ≡ sideFits side ⌝ }
-{
-    if side < LEAST_SIDE {
-        return false;
-    }
-    side <= MOST_SIDE
-}
-
-fn sides_fit(nx: u32, ny: u32, nz: u32) -> bool
-    ensures { λ r. ⌜ r ≡ sidesFit nx ny nz ⌝ }
-{
-    if side_fits(nx) {
-        if side_fits(ny) {
-            return side_fits(nz);
-        }
-    }
-    false
 }
 
 // Are there more than the limit, or more than the room holds?
@@ -122,7 +99,7 @@ pub fn extract(
 ) -> Extracted
     ensures { λ r. ⌜ Extracts nx ny nz grey (now (samples .entry)) (rooms (now (points .entry)) (now (edges .entry)) (now (marks .entry)) (now (triangles .entry)) (now (work .entry))) (left (r .number) (r .points) (r .triangles) (rooms (now (points .exit)) (now (edges .exit)) (now (marks .exit)) (now (triangles .exit)) (now (work .exit)))) ⌝ }
 {
-    if !sides_fit(nx, ny, nz) {
+    if !grid::sides_fit(nx, ny, nz) {
         return refused(1);
     }
     let x = nx as usize;

@@ -1,12 +1,36 @@
-// Sizes and limits, and the leaves of a point's place and mark.
+// Sizes and limits, the test of the sides, and the leaves of a point's place and mark.
 ghost use mathlib.Core.Path.{_≡_};
 ghost use Prim.Native.Nat.{_<_};
+ghost use Rattle.grid.specs.Sides.{sideFits, sidesFit};
 ghost use Rattle.grid.specs.Grid.{isEnd};
 ghost use Rattle.grid.specs.Point.{apart, offset as offsetOf};
 
 pub mod limits;
 
+use limits::LEAST_SIDE;
+use limits::MOST_SIDE;
 use limits::UNIT;
+
+fn side_fits(side: u32) -> bool
+    ensures { λ r. ⌜ r ≡ sideFits side ⌝ }
+{
+    if side < LEAST_SIDE {
+        return false;
+    }
+    side <= MOST_SIDE
+}
+
+// Is each side 2 to 64?
+pub fn sides_fit(nx: u32, ny: u32, nz: u32) -> bool
+    ensures { λ r. ⌜ r ≡ sidesFit nx ny nz ⌝ }
+{
+    if side_fits(nx) {
+        if side_fits(ny) {
+            return side_fits(nz);
+        }
+    }
+    false
+}
 
 // How far apart two samples are.
 fn apart_by(a: u16, b: u16) -> u32

@@ -1,22 +1,39 @@
-// What the program answers to its input.
+// What the program answers to its input: read, extract, smooth, list, write. All rooms are local, sized for the greatest numbers of a small grid.
+ghost use mathlib.Core.Path.{_≡_};
+ghost use Prim.Native.Nat.{_≤_};
+ghost use lib.ListN.{length, take};
+ghost use Rattle.grid.specs.Limits.{mostRounds, mostWeight};
+ghost use Rattle.closed.specs.Left.{smoothed as smoothedBy};
+ghost use Rattle.small.specs.Sizes.{mostOutput};
+ghost use Rattle.small.specs.Answer.{gridEdges, smoothedMesh, Prints, Answers};
+ghost use Rattle.small.specs.Promise.{meshOf, SmallMesh, headIn, SmallGrid};
+use grid::limits::MOST_SMALL;
 use text::Parsed;
 
-pub const MOST_INPUT: usize = 3111;
+// At most three grid edges leave a sample.
+const MOST_POINTS: usize = 3 * (MOST_SMALL as usize);
 
-pub const MOST_OUTPUT: usize = 495169;
+// A case has at most five triangles, and there are fewer cubes than samples.
+const MOST_TRIANGLES: usize = 5 * (MOST_SMALL as usize);
 
-const MOST_POINTS: usize = 1536;
+// Line 1 takes at most 38 bytes and a sample six; one more byte shows that something follows.
+pub const MOST_INPUT: usize = 38 + 6 * (MOST_SMALL as usize) + 1;
 
-const MOST_TRIANGLES: usize = 2560;
+// The longest text of a mesh with so many points, triangles and shells, of which there are no more than points.
+pub const MOST_OUTPUT: usize = 65 + 107 * MOST_POINTS + 65 * MOST_TRIANGLES + 107 * MOST_POINTS;
 
-// Lists the shells of the smoothed mesh, and writes it.
+// Lists the shells of a mesh and writes its text. Answers the text's length.
 fn write_listed(
     points: &[u32],
     edges: &[u32],
     marks: &[u8],
     triangles: &[u32],
     output: &mut [u8],
-) -> usize {
+) -> usize
+    requires { ⌜ SmallMesh (now points) (now edges) (now marks) (now triangles) (length (now output)) ⌝ }
+    ensures inside { λ r. ⌜ r ≤ length (now (output .exit)) ⌝ }
+    ensures text { λ r. ⌜ Prints (meshOf (now (points .entry)) (now (triangles .entry)) (now (marks .entry))) (now (edges .entry)) (take r (now (output .exit))) ⌝ }
+{
     let v = marks.len();
     let mut numbers = [0u32; MOST_POINTS];
     let mut work = [0u32; 2 * MOST_POINTS];
@@ -31,19 +48,20 @@ fn write_listed(
         &mut volumes,
         &mut work[..2 * v],
     );
-    let s = listed.shells;
-    text::write_mesh(
+    let shells = listed.shells;
+    let written = text::write_mesh(
         points,
         edges,
         marks,
         triangles,
-        &records[..4 * s],
-        &volumes[..s],
+        &records[..4 * shells],
+        &volumes[..shells],
         output,
-    ).length
+    );
+    written.length
 }
 
-// Smooths the mesh.
+// Smooths a mesh and writes its text.
 fn write_smoothed(
     points: &[u32],
     edges: &[u32],
@@ -52,7 +70,12 @@ fn write_smoothed(
     rounds: u32,
     weight: u32,
     output: &mut [u8],
-) -> usize {
+) -> usize
+    requires { ⌜ SmallMesh (now points) (now edges) (now marks) (now triangles) (length (now output)) ⌝ }
+    requires { ⌜ (rounds ≤ mostRounds) × (weight ≤ mostWeight) ⌝ }
+    ensures inside { λ r. ⌜ r ≤ length (now (output .exit)) ⌝ }
+    ensures text { λ r. ⌜ Prints (smoothedBy rounds weight (meshOf (now (points .entry)) (now (triangles .entry)) (now (marks .entry)))) (now (edges .entry)) (take r (now (output .exit))) ⌝ }
+{
     let v = marks.len();
     let t = triangles.len() / 3;
     let mut smoothed = [0u32; 3 * MOST_POINTS];
@@ -69,8 +92,12 @@ fn write_smoothed(
     write_listed(&smoothed[..3 * v], edges, marks, triangles, output)
 }
 
-// Extracts the mesh of a grid.
-fn write_grid(grid: Parsed, samples: &[u16], output: &mut [u8]) -> usize {
+// Extracts the mesh of a grid and writes its text.
+fn write_grid(grid: Parsed, samples: &[u16], output: &mut [u8]) -> usize
+    requires { ⌜ SmallGrid grid (now samples) × (mostOutput ≤ length (now output)) ⌝ }
+    ensures inside { λ r. ⌜ r ≤ length (now (output .exit)) ⌝ }
+    ensures text { λ r. ⌜ Prints (smoothedMesh (headIn grid) (now (samples .entry))) (gridEdges (headIn grid) (now (samples .entry))) (take r (now (output .exit))) ⌝ }
+{
     let mut points = [0u32; 3 * MOST_POINTS];
     let mut edges = [0u32; MOST_POINTS];
     let mut marks = [0u8; MOST_POINTS];
@@ -101,13 +128,18 @@ fn write_grid(grid: Parsed, samples: &[u16], output: &mut [u8]) -> usize {
     )
 }
 
-// Answers an input.
-pub fn answer(input: &[u8], output: &mut [u8]) -> usize {
-    let mut samples = [0u16; 512];
+// Answers an input: the text of a mesh, or a refusal's line. Answers the text's length.
+pub fn answer(input: &[u8], output: &mut [u8]) -> usize
+    requires { ⌜ mostOutput ≤ length (now output) ⌝ }
+    ensures inside { λ r. ⌜ r ≤ length (now (output .exit)) ⌝ }
+    ensures text { λ r. ⌜ Answers (now (input .entry)) (take r (now (output .exit))) ⌝ }
+{
+    let mut samples = [0u16; MOST_SMALL as usize];
     let grid = text::read_grid(input, &mut samples);
     if grid.number != 0 {
-        return text::write_refusal(grid.number, grid.line, output).length;
+        let refused = text::write_refusal(grid.number, grid.line, output);
+        return refused.length;
     }
-    let n = (grid.nx * grid.ny * grid.nz) as usize;
+    let n = (grid.nx * (grid.ny * grid.nz)) as usize;
     write_grid(grid, &samples[..n], output)
 }

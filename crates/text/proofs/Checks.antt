@@ -11,18 +11,20 @@ use borrow.Author.Tests.{leb-true, eq-eqb, ne-eqb, lt-ltb, le-ltb}
 use Rattle.laws.specs.Room.{laid}
 use Rattle.laws.proofs.Tests.{both}
 use Rattle.grid.specs.Limits.{leastSide, mostSide, mostRounds, mostWeight, mostSmall}
+use Rattle.grid.specs.Sides.{sidesFit}
+use Rattle.grid.proofs.Sides.{sides-within}
 use Rattle.text.specs.Reading.{Got, bad, got, mostNumber, Rows, malformed, rows, readRows}
 use Rattle.text.specs.Answers.{answeredRows}
-use Rattle.text.specs.Grid.{sideFits, sidesFit, samplesOf, smoothingFits, headNumber, Outcome, refusal, refused, grant, granted, withRows, withHead}
+use Rattle.text.specs.Grid.{samplesOf, smoothingFits, headNumber, Outcome, refusal, refused, grant, granted, withRows, withHead}
 use Rattle.text.specs.Promise.{answeredHead, filled, left}
 use Rattle.text.specs.declared.small.Head.{Head}
 use Rattle.text.specs.declared.small.Headed.{Headed}
 use Rattle.text.specs.declared.small.Parsed.{Parsed}
 
 -- line 1's numbers passed
-pub passed : (h : Head) → headNumber h ≡ 0 → (sidesFit h ≡ true) × (samplesOf h ≤ mostSmall) × (leb (h .rounds) mostRounds && leb (h .weight) mostWeight ≡ true)
+pub passed : (h : Head) → headNumber h ≡ 0 → (sidesFit (h .nx) (h .ny) (h .nz) ≡ true) × (samplesOf h ≤ mostSmall) × (leb (h .rounds) mostRounds && leb (h .weight) mostWeight ≡ true)
 unfolding headNumber smoothingFits
-passed h e = go (sidesFit h) (leb (samplesOf h) mostSmall) refl (leb (h .rounds) mostRounds && leb (h .weight) mostWeight) e
+passed h e = go (sidesFit (h .nx) (h .ny) (h .nz)) (leb (samplesOf h) mostSmall) refl (leb (h .rounds) mostRounds && leb (h .weight) mostWeight) e
   where
     go : (s t : Bool) → leb (samplesOf h) mostSmall ≡ t → (u : Bool) → _≡_ {A = ℕ} (cond (not s) 1 (cond (not t) 13 (cond (not u) 10 0))) 0 → (s ≡ true) × (samplesOf h ≤ mostSmall) × (u ≡ true)
     go true true q true e = (refl, leb-true (samplesOf h) mostSmall q, refl)
@@ -30,16 +32,11 @@ passed h e = go (sidesFit h) (leb (samplesOf h) mostSmall) refl (leb (h .rounds)
     go true false q u e = absurd (omega arith)
     go false t q u e = absurd (omega arith)
 
-side-some : (n : ℕ) → sideFits n ≡ true → leastSide ≤ n
-unfolding sideFits
-side-some n h = leb-true leastSide n (both (leb leastSide n) (leb n mostSide) h .0)
-
 -- there are no more rows than samples
 pub rows-few : (h : Head) → headNumber h ≡ 0 → h .ny * h .nz ≤ mostSmall
-unfolding sidesFit
 rows-few h e =
     let p = passed h e in
-    let x = side-some (h .nx) (both (sideFits (h .nx)) (sideFits (h .ny) && sideFits (h .nz)) (p .0) .0) in
+    let x = sides-within (h .nx) (h .ny) (h .nz) (p .0) .least-x in
     let m : 1 * (h .ny * h .nz) ≤ h .nx * (h .ny * h .nz) = mul-le-mul-right (h .ny * h .nz) (omega arith) in
     omega (arith, p .1, one-mul (h .ny * h .nz))
 

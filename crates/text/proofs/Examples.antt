@@ -8,13 +8,14 @@ use lib.ListN.{length, replicate}
 use Rattle.laws.specs.Range.{joinTo}
 use Rattle.laws.specs.Sum.{allOf}
 use Rattle.laws.specs.Room.{laid}
+use Rattle.grid.specs.Sides.{sideFits, sidesFit}
 use Rattle.grid.specs.Grid.{site}
 use lib.IntN.{pos, negsuc}
 use Rattle.text.specs.Decimal.{isDigit, decimalTo, decimal, signed}
 use Rattle.text.specs.Reading.{after, digitsOn, readNumber, endedBy, readField, endOf, readRow, ahead, lineThen, readRows}
 use Rattle.text.specs.Writing.{line, fields, lettered, refusalText}
 use Rattle.text.specs.MeshText.{pointsText, trianglesText, shellText, shellsText, linesOf, meshText}
-use Rattle.text.specs.Grid.{headOf, readHead, sideFits, sidesFit, samplesOf, smoothingFits, headNumber, Outcome, refused, granted, withRows, withHead, readGrid}
+use Rattle.text.specs.Grid.{headOf, readHead, samplesOf, smoothingFits, headNumber, Outcome, refused, granted, withRows, withHead, readGrid}
 use Rattle.text.specs.GridText.{sizeOf, row, rowsText, headText, gridText}
 use Rattle.text.specs.declared.small.Head.{Head}
 

@@ -19,11 +19,11 @@ use Rattle.grid.specs.Limits.{mostSide, mostRounds, mostWeight}
 use Rattle.grid.specs.Grid.{site}
 use Rattle.text.specs.Reading.{Got, bad, got, after, mostNumber, readRow, Rows, malformed, rows, readRows}
 use Rattle.text.specs.Writing.{line}
-use Rattle.text.specs.Grid.{headOf, readHead, sidesFit, samplesOf, headNumber, Outcome, refused, granted, withRows, withHead, readGrid}
+use Rattle.text.specs.Grid.{headOf, readHead, samplesOf, headNumber, Outcome, refused, granted, withRows, withHead, readGrid}
 use Rattle.text.specs.GridText.{sizeOf, row, rowsText, headText, gridText, Small}
 use Rattle.text.specs.declared.small.Head.{Head}
 use Rattle.text.proofs.Digits.{never}
-use Rattle.text.proofs.Samples.{sides-most}
+use Rattle.grid.proofs.Sides.{sides-within}
 use Rattle.text.proofs.Checks.{passed, head-refused, room-short, room-holds}
 use Rattle.text.proofs.Texts.{all-entries, part, row-written, IsLine, row-read, rows-written, AreLines, rows-read}
 
@@ -67,7 +67,7 @@ part-fits most width ns a r = cells-fit most width (λ x. getD ns (width * r + x
 head-within : (h : Head) → headNumber h ≡ 0 → h .grey ≤ mostNumber → All (λ n. n ≤ mostNumber) (h .nx ∷ h .ny ∷ h .nz ∷ h .grey ∷ h .rounds ∷ h .weight ∷ [])
 head-within h e g =
     let p = passed h e in
-    let s = sides-most h (p .0) in
+    let s = sides-within (h .nx) (h .ny) (h .nz) (p .0) in
     let k = both (leb (h .rounds) mostRounds) (leb (h .weight) mostWeight) (p .2) in
     (omega arith, (omega arith, (omega arith, (g, (omega (arith, leb-true (h .rounds) mostRounds (k .0)), (omega (arith, leb-true (h .weight) mostWeight (k .1)), tt))))))
 

@@ -14,10 +14,12 @@ use Rattle.laws.specs.Room.{laid}
 use Rattle.laws.proofs.Tests.{both}
 use Rattle.laws.proofs.Rooms.{laid-next}
 use Rattle.grid.specs.Limits.{leastSide, mostSide}
+use Rattle.grid.specs.Sides.{sidesFit}
+use Rattle.grid.proofs.Sides.{sides-within}
 use Rattle.text.specs.Reading.{Got, bad, got, after, mostNumber, readRow, Rows, malformed, rows}
 use Rattle.text.specs.Answers.{answeredRows}
 use Rattle.text.specs.Promise.{filled}
-use Rattle.text.specs.Grid.{headOf, readHead, sideFits, sidesFit}
+use Rattle.text.specs.Grid.{headOf, readHead}
 use Rattle.text.specs.declared.small.Head.{Head}
 
 -- a copy to the front of a room, number by number
@@ -31,22 +33,11 @@ copy-next xs room i l m =
     rw (add-one, take-suc xs i 0 l) (ap (λ k. set (laid (take i xs) room) k (getD xs i 0)) (sym e) ∙ laid-next (take i xs) room (getD xs i 0) (rw e m))
 
 -- the sides are within the limits
-side-most : (n : ℕ) → sideFits n ≡ true → n ≤ mostSide
-unfolding sideFits
-side-most n h = leb-true n mostSide (both (leb leastSide n) (leb n mostSide) h .1)
+pub rows-small : (h : Head) → sidesFit (h .nx) (h .ny) (h .nz) ≡ true → h .ny * h .nz ≤ mostSide * mostSide
+rows-small h f = let s = sides-within (h .nx) (h .ny) (h .nz) f in mul-le-mul (s .most-y) (s .most-z)
 
-pub sides-most : (h : Head) → sidesFit h ≡ true → (h .nx ≤ mostSide) × (h .ny ≤ mostSide) × (h .nz ≤ mostSide)
-unfolding sidesFit
-sides-most h f =
-    let x = both (sideFits (h .nx)) (sideFits (h .ny) && sideFits (h .nz)) f in
-    let y = both (sideFits (h .ny)) (sideFits (h .nz)) (x .1) in
-    (side-most (h .nx) (x .0), side-most (h .ny) (y .0), side-most (h .nz) (y .1))
-
-pub rows-small : (h : Head) → sidesFit h ≡ true → h .ny * h .nz ≤ mostSide * mostSide
-rows-small h f = let s = sides-most h f in mul-le-mul (s .1) (s .2)
-
-pub samples-small : (h : Head) → sidesFit h ≡ true → h .nx * (h .ny * h .nz) ≤ mostSide * (mostSide * mostSide)
-samples-small h f = mul-le-mul (sides-most h f .0) (rows-small h f)
+pub samples-small : (h : Head) → sidesFit (h .nx) (h .ny) (h .nz) ≡ true → h .nx * (h .ny * h .nz) ≤ mostSide * (mostSide * mostSide)
+samples-small h f = mul-le-mul (sides-within (h .nx) (h .ny) (h .nz) f .most-x) (rows-small h f)
 
 -- line 1, by its first two bytes
 pub head-short : (input : List ℕ) → length input < 2 → readHead input ≡ bad

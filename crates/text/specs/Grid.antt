@@ -5,7 +5,8 @@ use Prim.Native.Nat.{ℕ, _*_}
 use lib.Dec.{eqb, leb, ltb}
 use lib.ListN.{length, getD}
 use Rattle.laws.specs.Room.{laid}
-use Rattle.grid.specs.Limits.{leastSide, mostSide, mostRounds, mostWeight, mostSmall}
+use Rattle.grid.specs.Sides.{sidesFit}
+use Rattle.grid.specs.Limits.{mostRounds, mostWeight, mostSmall}
 use Rattle.text.specs.Reading.{Got, bad, got, after, tab, mostNumber, readRow, Rows, malformed, rows, readRows}
 use Rattle.text.specs.declared.small.Head.{Head}
 use Rattle.text.specs.declared.small.Parsed.{Parsed}
@@ -25,12 +26,6 @@ readHead (b ∷ c ∷ bs) =
     cond (eqb b letterG && eqb c tab) (after (λ ns rest. got (headOf ns) rest) (readRow mostNumber 6 bs)) bad
 
 -- the checks of line 1's numbers, in order: the first number that refuses, or 0
-unfoldable pub sideFits : ℕ → Bool
-sideFits n = leb leastSide n && leb n mostSide
-
-unfoldable pub sidesFit : Head → Bool
-sidesFit h = sideFits (h .nx) && (sideFits (h .ny) && sideFits (h .nz))
-
 abbrev pub samplesOf : Head → ℕ
 samplesOf h = h .nx * (h .ny * h .nz)
 
@@ -39,7 +34,7 @@ smoothingFits h = leb (h .rounds) mostRounds && leb (h .weight) mostWeight
 
 unfoldable pub headNumber : Head → ℕ
 headNumber h =
-    cond (not (sidesFit h)) 1
+    cond (not (sidesFit (h .nx) (h .ny) (h .nz))) 1
     (cond (not (leb (samplesOf h) mostSmall)) 13 (cond (not (smoothingFits h)) 10 0))
 
 -- what a call leaves behind: the answer, and the room that was lent for the samples

@@ -7,13 +7,11 @@ ghost use Rattle.laws.specs.Room.{laid};
 ghost use Rattle.grid.specs.Limits.{mostSmall};
 ghost use Rattle.text.specs.Reading.{got, mostNumber, readRows};
 ghost use Rattle.text.specs.Answers.{answeredRows};
-ghost use Rattle.text.specs.Grid.{headOf, readHead, sideFits, sidesFit, headNumber, refusal, withHead};
+ghost use Rattle.text.specs.Grid.{headOf, readHead, headNumber, refusal, withHead};
 ghost use Rattle.text.specs.Promise.{answeredHead, filled, left, ReadsGrid};
 use crate::reading::read_row;
 use crate::reading::read_rows;
-use grid::limits::LEAST_SIDE;
 use grid::limits::MOST_ROUNDS;
-use grid::limits::MOST_SIDE;
 use grid::limits::MOST_SMALL;
 use grid::limits::MOST_WEIGHT;
 
@@ -60,31 +58,11 @@ fn head_of(numbers: &[u16]) -> Head
     }
 }
 
-fn side_fits(side: u32) -> bool
-    ensures { λ r. ⌜ r ≡ sideFits side ⌝ }
-{
-    if side < LEAST_SIDE {
-        return false;
-    }
-    side <= MOST_SIDE
-}
-
-fn sides_fit(head: Head) -> bool
-    ensures { λ r. ⌜ r ≡ sidesFit head ⌝ }
-{
-    if side_fits(head.nx) {
-        if side_fits(head.ny) {
-            return side_fits(head.nz);
-        }
-    }
-    false
-}
-
 // The first number that refuses line 1's numbers, or 0. The sides are within their limit before they are multiplied.
 fn head_number(head: Head) -> u32
     ensures { λ r. ⌜ r ≡ headNumber head ⌝ }
 {
-    if !sides_fit(head) {
+    if !grid::sides_fit(head.nx, head.ny, head.nz) {
         return 1;
     }
     if head.nx * (head.ny * head.nz) > MOST_SMALL {

@@ -3,10 +3,12 @@ use mathlib.Core.Path.{_≡_, sym, _∙_}
 use mathlib.Core.Bool.{true}
 use native.Mathlib.Omega.{arith}
 use borrow.Author.Tests.{not-true, not-false}
-use Rattle.extract.specs.Outcome.{Rooms, sidesFit}
+use Rattle.grid.specs.Sides.{sidesFit}
+use Rattle.grid.proofs.Sides.{sides-within}
+use Rattle.extract.specs.Outcome.{Rooms}
 use Rattle.extract.specs.Promise.{rooms}
 use Rattle.extract.proofs.Ways.{rows-most}
-use Rattle.extract.proofs.Refusals.{sides-within, samples-most, refused-sides, refused-samples, refused-work, past-lengths}
+use Rattle.extract.proofs.Refusals.{samples-most, refused-sides, refused-samples, refused-work, past-lengths}
 use borrow.Author.Needs.{needs}
 use Rattle.extract.proofs.extract.Statement.{statement}
 use Rattle.extract.proofs.extract.Tie as tie

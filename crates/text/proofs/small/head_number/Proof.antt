@@ -3,7 +3,7 @@ use mathlib.Core.Path.{_≡_, sym, _∙_}
 use mathlib.Core.Bool.{true, false, and-false}
 use native.Mathlib.Omega.{arith}
 use borrow.Author.Tests.{not-true, not-false, le-leb, lt-leb}
-use Rattle.text.specs.Grid.{sidesFit, smoothingFits, headNumber}
+use Rattle.text.specs.Grid.{smoothingFits, headNumber}
 use Rattle.text.proofs.Samples.{rows-small, samples-small}
 use borrow.Author.Needs.{needs}
 use Rattle.text.proofs.small.head_number.Statement.{statement}

@@ -1,9 +1,9 @@
--- `extract::sides_fit` meets its contract. Assumes nothing.
+-- `grid::sides_fit` meets its contract. Assumes nothing.
 use mathlib.Core.Path.{sym, _∙_}
 use borrow.Author.Needs.{needs}
-use Rattle.extract.specs.Outcome.{sidesFit}
-use Rattle.extract.proofs.sides_fit.Statement.{statement}
-use Rattle.extract.proofs.sides_fit.Tie as tie
+use Rattle.grid.specs.Sides.{sidesFit}
+use Rattle.grid.proofs.sides_fit.Statement.{statement}
+use Rattle.grid.proofs.sides_fit.Tie as tie
 
 side-fits-requires : tie.Need-side-fits-requires
 side-fits-requires c κs = search needs

@@ -1,8 +1,8 @@
--- `text::small::side_fits` meets its contract. Assumes nothing.
+-- `grid::side_fits` meets its contract. Assumes nothing.
 use borrow.Author.Tests.{lt-leb, le-leb}
-use Rattle.text.specs.Grid.{sideFits}
-use Rattle.text.proofs.small.side_fits.Statement.{statement}
-use Rattle.text.proofs.small.side_fits.Tie as tie
+use Rattle.grid.specs.Sides.{sideFits}
+use Rattle.grid.proofs.side_fits.Statement.{statement}
+use Rattle.grid.proofs.side_fits.Tie as tie
 
 returns : tie.Need-returns
 unfolding sideFits

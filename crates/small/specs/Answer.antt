@@ -1,0 +1,55 @@
+-- What the program prints, and what it answers to an input (document 01, "The program for small grids").
+use mathlib.Core.Path.{_≡_}
+use mathlib.Core.List.{List, map, flatMap}
+use Prim.Native.Nat.{ℕ}
+use lib.IntN.{ℤ}
+use lib.ListN.{length, replicate}
+use Rattle.laws.specs.Range.{joinTo}
+use Rattle.laws.specs.Values.{listTo}
+use Rattle.laws.specs.Mesh.{flat}
+use Rattle.grid.specs.Limits.{mostSmall}
+use Rattle.grid.specs.Grid.{axes, isAboveGrey, mark}
+use Rattle.grid.specs.Point.{pointEdges, place}
+use Rattle.grid.specs.Mesh.{mesh}
+use Rattle.mesh.specs.Mesh.{trianglesOf}
+use Rattle.shells.specs.Numbering.{Numbering}
+use Rattle.shells.specs.Record.{recordOf}
+use Rattle.closed.specs.Left.{Mesh, smoothed}
+use Rattle.listing.specs.Listing.{numbersOf}
+use Rattle.text.specs.Writing.{refusalText}
+use Rattle.text.specs.MeshText.{meshText}
+use Rattle.text.specs.Grid.{readGrid}
+use Rattle.text.specs.GridText.{Small, sizeOf, gridText}
+use Rattle.text.specs.declared.small.Head.{Head}
+
+module _ (h : Head) (samples : List ℕ) where
+  -- extract
+  unfoldable pub gridEdges : List ℕ
+  gridEdges = pointEdges axes (sizeOf h) (isAboveGrey (h .grey) samples)
+
+  unfoldable pub extractedMesh : Mesh
+  extractedMesh =
+      record {
+        points = flatMap (place axes (sizeOf h) (h .grey) samples) gridEdges;
+        triangles = flat (mesh (sizeOf h) (isAboveGrey (h .grey) samples));
+        marks = map (mark axes (sizeOf h)) gridEdges;
+      }
+
+  -- smooth by the stated rounds and weight
+  unfoldable pub smoothedMesh : Mesh
+  smoothedMesh = smoothed (h .rounds) (h .weight) extractedMesh
+
+-- list the shells of a mesh, and write the mesh with their records
+pub record Prints (m : Mesh) (edges text : List ℕ) : Type 0 where
+  pub numbers : List ℕ
+  pub shells : ℕ
+  pub numbering : Numbering (trianglesOf (m .triangles)) (length (m .marks)) numbers shells
+  pub written :
+      let record-of = recordOf (m .points) (m .triangles) (m .marks) numbers in
+      text ≡ meshText (m .points) edges (m .marks) (m .triangles) (joinTo shells (λ n. numbersOf (record-of n))) (listTo shells (λ n. record-of n .volume))
+
+-- the text of a small grid is answered with the text of its smoothed mesh, any other input with its refusal
+pub data Answers (input text : List ℕ) : Type 0 where
+  printed : (h : Head) (samples : List ℕ) → Small h samples → input ≡ gridText h samples → Prints (smoothedMesh h samples) (gridEdges h samples) text → Answers input text
+  refused : let parsed = readGrid input (replicate mostSmall 0) .answer in
+      (parsed .number ≡ 0 → ⊥) → text ≡ refusalText (parsed .number) (parsed .line) → Answers input text
