@@ -12,7 +12,7 @@ use Rattle.laws.specs.Room.{laid}
 use Rattle.laws.specs.Values.{listTo}
 use Rattle.laws.proofs.Ranges.{join-next, join-cong}
 use Rattle.laws.proofs.Rooms.{length-laid}
-use Rattle.laws.proofs.Values.{laid-none, laid-more, laid-at, list-cong, length-list}
+use Rattle.laws.proofs.Values.{laid-more, laid-at, list-cong, length-list}
 use Rattle.laws.proofs.Writes.{sets-append, sets-front}
 use Rattle.shells.specs.declared.Shell.{Shell}
 use Rattle.shells.specs.Grown.{none}
@@ -51,8 +51,8 @@ numbers-long n shell room h = length-laid (joinTo n (λ k. numbersOf (shell k)))
 
 -- and the volumes'
 pub volumes-none : (shell : ℕ → Shell) (room : List ℤ) → room ≡ volumesHanded 0 shell room
-unfolding volumesHanded
-volumes-none shell room = sym (laid-none (λ n. shell n .volume) room)
+unfolding volumesHanded listTo joinTo laid
+volumes-none shell room = refl
 
 pub volumes-more : (n : ℕ) (shell : ℕ → Shell) (room : List ℤ) → n < length room
     → set (volumesHanded n shell room) n (shell n .volume) ≡ volumesHanded (n + 1) shell room
@@ -105,9 +105,9 @@ module _ (points triangles marks numbers work : List ℕ) (room : List Shell) (o
       → numbersAfter ≡ numbersHanded (o .shells) (λ n. getD after n none) records
       → volumesAfter ≡ volumesHanded (o .shells) (λ n. getD after n none) volumes
       → Listing points triangles marks numbers work records volumes o numbersAfter volumesAfter
-  all-handed records volumes numbersAfter volumesAfter long s n v =
+  all-handed records volumes numbersAfter volumesAfter size s n v =
       record {
-        lists = subst (λ k. Lists points triangles marks k numbers work o) long (s .lists);
+        lists = subst (λ k. Lists points triangles marks k numbers work o) size (s .lists);
         record-numbers = n ∙ numbers-same (o .shells) (λ n. getD after n none) (recordOf points triangles marks (o .numbers)) (each s) records;
         record-volumes = v ∙ volumes-same (o .shells) (λ n. getD after n none) (recordOf points triangles marks (o .numbers)) (each s) volumes;
       }
