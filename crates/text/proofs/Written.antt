@@ -1,13 +1,15 @@
 -- The lengths of numbers, and numbers written into a room.
 use mathlib.Core.Path.{_≡_, refl, ap, sym, _∙_}
+use mathlib.Core.Bool.{Bool, true, false, cond}
 use mathlib.Core.List.{List, [], _∷_, _++_, append-assoc}
 use Prim.Native.Nat.{ℕ, zero, suc, _+_, _*_, _-_, _/_, _%_, _^_, _≤_, _<_}
 use native.Mathlib.Nat.{pow-succ', add-zero}
 use native.Mathlib.Decide.{decLt}
 use native.Mathlib.Numerals.{add-one}
 use native.Mathlib.Omega.{arith}
-use lib.ListN.{length, getD, drop, set, length-append, length-drop, drop-of-length-le}
-use lib.Seq.{sets, set-comm, drop-at}
+use lib.Dec.{ltb}
+use lib.ListN.{length, getD, take, drop, set, length-append, length-drop, drop-of-length-le}
+use lib.Seq.{sets, set-comm, take-at, drop-at}
 use borrow.Author.Tests.{le-ltb, lt-ltb}
 use Rattle.laws.specs.Room.{laid}
 use Rattle.laws.proofs.Writes.{sets-append, sets-front}
@@ -142,3 +144,16 @@ written-front text room left long l q e =
 pub written-not : (text room : List ℕ) → length room < length text → outcome 3 0 room ≡ written text room
 unfolding written
 written-not text room l = rw (lt-ltb (length room) (length text) l)
+
+-- a text that was written is read again at the front of the room
+pub written-read : (text room left : List ℕ) (number long : ℕ) → (number ≡ 3 → ⊥) → outcome number long left ≡ written text room → (long ≤ length left) × (take long left ≡ text)
+unfolding written laid
+written-read text room left number long not-short e = go (ltb (length room) (length text)) refl e
+  where
+    go : (t : Bool) → ltb (length room) (length text) ≡ t → outcome number long left ≡ cond t (outcome 3 0 room) (outcome 0 (length text) (text ++ drop (length text) room))
+        → (long ≤ length left) × (take long left ≡ text)
+    go true q e = absurd (not-short (ap (λ o. o .number) e))
+    go false q e =
+        let n : long ≡ length text = ap (λ o. o .length) e in
+        let r : left ≡ text ++ drop (length text) room = ap (λ o. o .room) e in
+        (rw (n, r) (omega (arith, length-append text (drop (length text) room))), rw (n, r) (take-at text (drop (length text) room) (length text) refl))
