@@ -17,14 +17,14 @@ use calls::{
     curvature::Curvature, extraction::Extraction, shells::Shells, smoothing::Smoothing, Call,
 };
 
-pub type Failure = Box<dyn std::error::Error>;
+type Failure = Box<dyn std::error::Error>;
 
 /// What the command line asks for.
-pub struct Asked {
+struct Asked {
     /// So many runs of the extractor, and a tenth of that, rounded up, of each other call.
-    pub runs: usize,
+    runs: usize,
     /// The program that times VTK's filters.
-    pub vtk: Option<String>,
+    vtk: Option<String>,
 }
 
 fn asked(mut words: impl Iterator<Item = String>) -> Result<Asked, Failure> {
