@@ -4,7 +4,7 @@ use crate::calls::{shells::Shells, Call};
 use crate::subject::Subject;
 use crate::{times, Failure};
 
-const POINTS: u32 = 250_000;
+const POINTS: u32 = viewer::MOST_POINTS as u32;
 
 fn chain() -> Subject {
     Subject {

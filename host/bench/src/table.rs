@@ -106,7 +106,7 @@ fn explain(asked: &Asked) {
         );
     }
     println!(
-        "The library on made-up castings of 64 samples a side at grey value {GREY}, on one thread. Median runs: {} for extraction, {} for each other call.",
+        "The library on made-up castings of 64 samples a side at grey value {GREY}, on one thread. A time is the median of {} runs of extraction, {} of each other call.",
         Extraction::runs(asked.runs),
         Smoothing::runs(asked.runs)
     );

@@ -18,14 +18,14 @@ impl Call for Extraction {
     const FILTER: &'static str = "vtkFlyingEdges3D";
 
     fn lent(on: &Subject) -> Extraction {
-        let points = (3 * on.sample_count()).min(250_000);
-        let triangles = (5 * on.sample_count()).min(500_000);
+        let points = (3 * on.sample_count()).min(viewer::MOST_POINTS);
+        let triangles = (5 * on.sample_count()).min(viewer::MOST_TRIANGLES);
         Extraction {
             points: vec![1; 3 * points],
             edges: vec![1; points],
             marks: vec![1; points],
             triangles: vec![1; 3 * triangles],
-            work: vec![1; 3 * on.sample_count()],
+            work: vec![1; viewer::extract_work(on.sample_count())],
         }
     }
 

@@ -38,7 +38,7 @@ impl Call for Shells {
             numbers: vec![1; on.point_count()],
             records: vec![NONE; on.point_count()],
             plain: Vec::new(),
-            work: vec![1; 2 * on.point_count()],
+            work: vec![1; viewer::shells_work(on.point_count())],
         }
     }
 

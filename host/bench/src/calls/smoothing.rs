@@ -19,7 +19,7 @@ impl Call for Smoothing {
     fn lent(on: &Subject) -> Smoothing {
         Smoothing {
             smoothed: vec![1; 3 * on.point_count()],
-            work: vec![1; 6 * on.triangle_count() + 5 * on.point_count() + 1],
+            work: vec![1; viewer::smooth_work(on.point_count(), on.triangle_count())],
         }
     }
 
