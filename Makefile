@@ -16,6 +16,7 @@ test:
 	verdict=$$(tail -n 1 "$$kept")
 	grep -Eqx '[0-9]+ passed, 0 failed' <<<"$$verdict"
 	rt staticlib viewer
+	RUSTDOCFLAGS='-D warnings' tools/cargo doc --quiet --no-deps --manifest-path host/Cargo.toml
 	tools/cargo test --quiet --manifest-path host/Cargo.toml
 	tools/example
 	echo "$$verdict"

@@ -5,7 +5,7 @@
 #include <stdio.h>
 #include <stdlib.h>
 
-enum { side = 12, samples = side * side * side, most_points = 3 * samples, most_triangles = 5 * samples };
+enum { side = 12, samples = side * side * side };
 
 /* A room, or the end of the program. */
 static void *room(size_t count, size_t size) {
@@ -36,6 +36,7 @@ static void cast(uint16_t *volume) {
 
 int main(void) {
   uint16_t *volume = room(samples, sizeof *volume);
+  size_t most_points = tholbrina_grid_points(side, side, side), most_triangles = tholbrina_grid_triangles(side, side, side);
   uint32_t *points = room(3 * most_points, sizeof *points), *edges = room(most_points, sizeof *edges);
   uint8_t *marks = room(most_points, sizeof *marks);
   uint32_t *triangles = room(3 * most_triangles, sizeof *triangles);

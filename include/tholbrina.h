@@ -1,7 +1,18 @@
 /* Tholbrina: the surface of the metal in an X-ray volume, proved.
  *
- * Every call checks everything itself. It answers 0 if granted, else the number of the refusal that comes first in the order given with the
- * call. A refusal leaves every lent result room as it was, and the counts zero. Lengths are numbers of elements. Rooms must not overlap. */
+ * What every call has in common:
+ *
+ * A room is memory that the caller lends for the length of the call: a pointer, and as its length the number of elements. No pointer may be null,
+ * not even with length 0. A room that is written (one without const, and every count or number behind a pointer) must overlap no other; rooms
+ * that are only read may overlap each other. Nothing past a length is read or written.
+ *
+ * Every call checks everything else itself. All but the first two answer a number: 0 if granted, else the number of the refusal that comes first
+ * in the order given with the call. A refusal leaves every result room as it was and sets every count to 0. A result room is one that is written and
+ * is not the work room; what becomes of the work room is said with each call. What the work room holds before a call does not matter.
+ *
+ * No call allocates memory or keeps anything, so calls on different rooms may run at once.
+ *
+ * Places are in units: a unit is 1/256 of a voxel, and a voxel the distance of two neighbouring samples. */
 #ifndef THOLBRINA_H
 #define THOLBRINA_H
 
@@ -12,22 +23,52 @@
 extern "C" {
 #endif
 
-/* How many triangles a case of the cube has: 0 to 5. */
+/* The bounds. */
+enum {
+  tholbrina_least_side = 2,
+  tholbrina_most_side = 64,
+  tholbrina_most_points = 250000,
+  tholbrina_most_triangles = 500000,
+  tholbrina_most_coordinate = 16128,
+  tholbrina_most_rounds = 100,
+  tholbrina_most_weight = 256
+};
+
+/* How many triangles a case of the cube has: 0 to 5. Bit c of the case number is set when corner c = x + 2y + 4z of the cube is above. */
 uint8_t tholbrina_case_count(uint8_t case_number);
 
-/* The edge number at a place, 0 to 14, of a case's five triangles; 0 at any place beyond. */
+/* The cube edge at a place of a case: places 3t, 3t + 1 and 3t + 2 are the corners of triangle t, 0 to 4. It is 0 where the case has no such triangle,
+ * and at any place over 14. Edges along x have the number y + 2z, along y 4 + x + 2z, along z 8 + x + 2y. */
 uint8_t tholbrina_case_edge(uint8_t case_number, uint32_t place);
+
+/* At least as many points and triangles as a grid of these sides can give, within the bounds. With room for so many, refusals 4 and 5 come only
+ * where a bound is exceeded. */
+static inline size_t tholbrina_grid_points(size_t nx, size_t ny, size_t nz) {
+  size_t edges = 3 * nx * ny * nz;
+  return edges < tholbrina_most_points ? edges : (size_t)tholbrina_most_points;
+}
+static inline size_t tholbrina_grid_triangles(size_t nx, size_t ny, size_t nz) {
+  size_t triangles = 5 * nx * ny * nz;
+  return triangles < tholbrina_most_triangles ? triangles : (size_t)tholbrina_most_triangles;
+}
 
 /* The length of the extractor's work room for a grid of these sides. */
 static inline size_t tholbrina_extract_work(size_t nx, size_t ny, size_t nz) {
   return 3 * nx * ny * nz;
 }
 
-/* The mesh of a grid of nx * ny * nz samples at one grey value. Sample (x, y, z) is samples[x + nx * (y + ny * z)].
+/* The mesh of a grid of nx * ny * nz samples at one grey value. Sample (x, y, z) is samples[s] with s = x + nx * (y + ny * z). A sample is above if it
+ * is at least the grey value, else below. A point stands on each grid edge between a sample above and one below, where the grey value is met on the
+ * straight line between the two, to the nearest unit, halves up.
  *
- * Fills from the front: points, three coordinates each in 1/256 of a voxel; edges, the number of each point's grid edge; marks, 1 for a point
- * on an outer face of the grid, else 0; triangles, three point numbers each. The rest of each room stays. A room for points or triangles counts
- * its whole threes. *point_count and *triangle_count say how many of each there are, and are 0 after a refusal.
+ * Fills from the front, and leaves the rest of each room as it was:
+ *   points     three coordinates a point, in units: x, y, z
+ *   edges      the grid edge of each point, in rising order: 3s + a for the edge that leaves sample s along axis a (0 is x, 1 is y, 2 is z)
+ *   marks      1 for a point whose grid edge lies on an outer face of the grid, else 0
+ *   triangles  three point numbers a triangle, cube by cube, x fastest, then y, then z; counterclockwise as seen from the side below, save where
+ *              points share a place or a loop is bent
+ * A room for points or triangles counts its whole threes. *point_count and *triangle_count say how many of each there are. A mesh may be empty: grey
+ * value 0 gives an empty one, since all samples are at least 0.
  *
  * Refusals, in this order:
  *   1  a side is below 2 or above 64
@@ -45,14 +86,17 @@ uint32_t tholbrina_extract(uint32_t nx, uint32_t ny, uint32_t nz, uint16_t grey,
                            uint32_t *work, size_t work_len,
                            uint32_t *point_count, uint32_t *triangle_count);
 
+/* The calls on a mesh take what the extractor gives or any other mesh that passes their checks: three coordinates a point, three point numbers a
+ * triangle, a mark a point. V is marks_len, and T a third of triangles_len. The mesh is never written. */
+
 /* The length of the smoothing work room for a mesh of so many points and triangles. */
 static inline size_t tholbrina_smooth_work(size_t points, size_t triangles) {
   return 6 * triangles + 5 * points + 1;
 }
 
-/* Rounds of smoothing. V is marks_len and T a third of triangles_len. In a round every point with mark 0 that has a neighbour (a different
- * point that shares a triangle side with it) moves towards the mean of its neighbours' old places, by weight / 256 of the way, to the nearest
- * unit. The places after the last round fill the second point list, smoothed; 0 rounds copy the points.
+/* Rounds of smoothing. In a round every point with mark 0 that has a neighbour (a different point that shares a triangle side with it) moves
+ * towards the mean of its neighbours' places of the round before, by weight / 256 of the way, each coordinate to the nearest unit, halves up. All other
+ * points stay. The places after the last round fill the second point list, smoothed, of exactly 3V numbers; 0 rounds copy the points.
  *
  * Refusals, in this order:
  *   6   points_len is not 3V, triangles_len is not a multiple of three, V is over 250,000 or T over 500,000
@@ -61,7 +105,7 @@ static inline size_t tholbrina_smooth_work(size_t points, size_t triangles) {
  *   9   a mark is over 1
  *   10  rounds is over 100 or weight over 256
  *   3   smoothed_len is not 3V, or work_len is not 6T + 5V + 1
- * Each leaves both rooms as they were; a granted call leaves the work room all zero. */
+ * Each leaves the work room as it was; a granted call leaves it all zero. */
 uint32_t tholbrina_smooth(const uint32_t *points, size_t points_len,
                           const uint32_t *triangles, size_t triangles_len,
                           const uint8_t *marks, size_t marks_len,
@@ -69,21 +113,25 @@ uint32_t tholbrina_smooth(const uint32_t *points, size_t points_len,
                           uint32_t *smoothed, size_t smoothed_len,
                           uint32_t *work, size_t work_len);
 
-/* One point's coordinates out of the raw list of points (second 0) or the smoothed one (any other value).
+/* One point's coordinates, into *x, *y and *z, out of the raw list of points (second 0) or the smoothed one (any other value). There is no work room.
  *
- * Refusals, in this order; each leaves *x, *y and *z as they were:
- *   6   the lists differ in length, or their length is not a multiple of three
+ * Refusals, in this order:
+ *   6   raw_len is not smoothed_len, or not a multiple of three
  *   14  point is not below the third of that length */
 uint32_t tholbrina_show(const uint32_t *raw, size_t raw_len,
                         const uint32_t *smoothed, size_t smoothed_len,
                         uint32_t second, uint32_t point,
                         uint32_t *x, uint32_t *y, uint32_t *z);
 
-/* A shell: its lowest point, how many points and triangles it has, whether it touches an outer face (1 if any of its points is marked, else 0), and
- * six times its volume in units of (1/256 of a voxel) cubed, a signed whole number: a void inside metal counts negative. */
+/* A shell's record. */
 typedef struct tholbrina_shell {
-  uint32_t low, points, triangles, touches;
-  int64_t volume;
+  uint32_t low;       /* its lowest point */
+  uint32_t points;    /* how many points it has */
+  uint32_t triangles; /* how many triangles it has */
+  uint32_t touches;   /* 1 if any of its points is marked, else 0 */
+  int64_t volume;     /* six times its volume in cubic units: the sum over its triangles of the determinant of the three points as rows. A void inside
+                       * metal counts negative, save where rounding or smoothing lets its points fall together. A shell that touches an outer face
+                       * may be open there, and the sum is then no volume of a body. */
 } tholbrina_shell;
 
 /* The length of the work room for the shells of so many points. */
@@ -91,14 +139,15 @@ static inline size_t tholbrina_shells_work(size_t points) {
   return 2 * points;
 }
 
-/* The shells of a mesh. V is marks_len. Two points are in one shell exactly when triangle sides lead from one to the other; a point in no triangle is a
- * shell by itself. Shells are numbered from 0 in rising order of their lowest point: numbers gets each point's shell, and record n is shell n. Records
- * past the last stay. *shell_count says how many there are, and is 0 after a refusal.
+/* The shells of a mesh. Two points are in one shell exactly when triangle sides lead from one to the other; a point in no triangle is a shell by
+ * itself. Shells are numbered from 0 in rising order of their lowest point. numbers, of exactly V numbers, gets each point's shell; records gets from
+ * the front a record a shell, record n of shell n, and the rest of it stays. *shell_count says how many shells there are. There are never more
+ * than V.
  *
  * Refusals, in this order: 6, 7, 8, 9 as for tholbrina_smooth, then
  *   3   numbers_len is not V, or work_len is not 2V
  *   11  there are more shells than records_len
- * 6 to 9 and 3 leave all rooms as they were; 11 leaves numbers and records, and the work room all zero, and so does a granted call. */
+ * All but 11 leave the work room as it was; 11 and a granted call leave it all zero. */
 uint32_t tholbrina_shells(const uint32_t *points, size_t points_len,
                           const uint32_t *triangles, size_t triangles_len,
                           const uint8_t *marks, size_t marks_len,
@@ -107,10 +156,11 @@ uint32_t tholbrina_shells(const uint32_t *points, size_t points_len,
                           uint32_t *work, size_t work_len,
                           uint32_t *shell_count);
 
-/* Corner areas and mean curvature of a mesh. V is marks_len. areas has one number a point, vectors three; both in units of 1/256 of a voxel.
- * A point's vector is +0.0 where its mark is 1 or its area 0. There is no work room.
+/* Corner areas and mean curvature of a mesh. areas, of exactly V numbers, gets each point's area in square units; vectors, of exactly 3V, the
+ * x, y and z of each point's mean curvature vector, whose length is the mean curvature per unit: 256 times that is per voxel. All three are
+ * +0.0 where the mark is 1 or the area 0. There is no work room.
  *
- * Refusals, in this order, each of which leaves both rooms as they were: 6, 7, 8, 9 as for tholbrina_smooth, then
+ * Refusals, in this order: 6, 7, 8, 9 as for tholbrina_smooth, then
  *   3   areas_len is not V, or vectors_len is not 3V */
 uint32_t tholbrina_curvature(const uint32_t *points, size_t points_len,
                              const uint32_t *triangles, size_t triangles_len,
@@ -118,14 +168,16 @@ uint32_t tholbrina_curvature(const uint32_t *points, size_t points_len,
                              double *areas, size_t areas_len,
                              double *vectors, size_t vectors_len);
 
-/* The kinds of an answer: open, a point with mark 1, has an area; flat has neither; bent has an area and a vector. */
+/* The kinds of an answer: a point with mark 1 is open and has an area; any other with area 0 is flat and has nothing; all others are bent and have an
+ * area and a vector. */
 enum { tholbrina_open = 0, tholbrina_flat = 1, tholbrina_bent = 2 };
 
-/* One point's answer, read back from the marks and both rooms: its kind, its area and its vector x, y, z. What a kind does not have is +0.0.
+/* One point's answer, read back from the marks and both rooms of tholbrina_curvature: its kind, its area and its vector x, y, z. What a kind does
+ * not have is told as +0.0. V is marks_len. There is no work room.
  *
- * Refusals, in this order; each leaves all five as they were:
- *   6   areas_len is not marks_len, or vectors_len is not three times that
- *   14  point is not below marks_len
+ * Refusals, in this order:
+ *   6   areas_len is not V, or vectors_len is not 3V
+ *   14  point is not below V
  *   9   that point's mark is over 1 */
 uint32_t tholbrina_answer(const uint8_t *marks, size_t marks_len,
                           const double *areas, size_t areas_len,

@@ -29,6 +29,25 @@ pub fn casting(voids: usize) -> Vec<u16> {
     samples
 }
 
+/// A casting cut into blocks of so many samples a side, a divisor of 64.
+pub fn blocks(samples: &[u16], side: usize) -> Vec<Vec<u16>> {
+    let many = SIDE / side;
+    (0..many.pow(3))
+        .map(|block| [block % many, block / many % many, block / (many * many)])
+        .map(|at| block(samples, side, at.map(|place| side * place)))
+        .collect()
+}
+
+/// The block whose first sample is at (x, y, z).
+fn block(samples: &[u16], side: usize, [x, y, z]: [usize; 3]) -> Vec<u16> {
+    (0..side * side)
+        .flat_map(|row| {
+            let start = x + SIDE * (y + row % side + SIDE * (z + row / side));
+            samples[start..start + side].iter().copied()
+        })
+        .collect()
+}
+
 /// Takes the metal out of an ellipsoid, with a soft rim of a few samples.
 fn hollow(samples: &mut [u16], middle: [f64; 3], half: [f64; 3], seed: &mut Seed) {
     let range = |axis: usize| {

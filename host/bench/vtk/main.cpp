@@ -1,10 +1,10 @@
-// vtk_bench FILE GREY RUNS: the median milliseconds of VTK's filters on one thread, a line each with the filter's name, on a volume of 64 samples
-// a side. Points and triangles only, as the library gives them: no normals, gradients or scalars. The filters on a mesh take vtkFlyingEdges3D's.
+// vtk_bench GREY RUNS: the median nanoseconds of VTK's filters on one thread, a line each with the filter's name, on a volume of 64 samples a
+// side from standard input. Points and triangles only, as the library gives them: no normals, gradients or scalars. The filters on a mesh take
+// vtkFlyingEdges3D's. Two more lines: the triangles of that mesh, and its mean curvature.
 #include <vtkCurvatures.h>
 #include <vtkDataArray.h>
 #include <vtkFlyingEdges3D.h>
 #include <vtkImageData.h>
-#include <vtkMarchingCubes.h>
 #include <vtkNew.h>
 #include <vtkPointData.h>
 #include <vtkPolyData.h>
@@ -20,37 +20,40 @@
 #include <cstdlib>
 #include <vector>
 
+static const int side = 64;
+
 template <class Filter> static void median(const char *name, Filter *filter, int runs) {
   std::vector<double> times;
   for (int i = 0; i < runs; i++) {
     filter->Modified();
     auto start = std::chrono::steady_clock::now();
     filter->Update();
-    std::chrono::duration<double, std::milli> time = std::chrono::steady_clock::now() - start;
+    std::chrono::duration<double, std::nano> time = std::chrono::steady_clock::now() - start;
     times.push_back(time.count());
   }
   std::sort(times.begin(), times.end());
   std::printf("%s %f\n", name, times[runs / 2]);
 }
 
-template <class Filter> static void set_up(Filter *filter, vtkImageData *volume, double grey) {
+static void surface(vtkFlyingEdges3D *filter, vtkImageData *volume, double grey, int runs) {
   filter->SetInputData(volume);
   filter->SetValue(0, grey);
   filter->ComputeNormalsOff();
   filter->ComputeGradientsOff();
   filter->ComputeScalarsOff();
+  median("vtkFlyingEdges3D", filter, runs);
 }
 
-// Half of the way to the neighbours' mean in each round, as the library's weight 128; no edge is treated as a feature.
-static void smooth(const char *name, vtkPolyData *mesh, int rounds, int runs) {
+// Ten rounds, half of the way to the neighbours' mean in each, as the library's weight 128; no edge is treated as a feature.
+static void smooth(vtkPolyData *mesh, int runs) {
   vtkNew<vtkSmoothPolyDataFilter> filter;
   filter->SetInputData(mesh);
-  filter->SetNumberOfIterations(rounds);
+  filter->SetNumberOfIterations(10);
   filter->SetRelaxationFactor(0.5);
   filter->SetConvergence(0);
   filter->FeatureEdgeSmoothingOff();
   filter->BoundarySmoothingOff();
-  median(name, filter.Get(), runs);
+  median("vtkSmoothPolyDataFilter", filter.Get(), runs);
 }
 
 // Every region numbered; no volumes, which the library's list has.
@@ -62,51 +65,36 @@ static void connectivity(vtkPolyData *mesh, int runs) {
   median("vtkPolyDataConnectivityFilter", filter.Get(), runs);
 }
 
+// The time, and the mean over all points of the size of the mean curvature, a voxel.
 static void curvatures(vtkPolyData *mesh, int runs) {
   vtkNew<vtkCurvatures> filter;
   filter->SetInputData(mesh);
   filter->SetCurvatureTypeToMean();
   median("vtkCurvatures", filter.Get(), runs);
-}
-
-// The mean over all points of the size of the mean curvature, a voxel.
-static void mean(const char *name, vtkPolyData *mesh) {
-  vtkNew<vtkCurvatures> filter;
-  filter->SetInputData(mesh);
-  filter->SetCurvatureTypeToMean();
-  filter->Update();
   vtkDataArray *found = filter->GetOutput()->GetPointData()->GetArray("Mean_Curvature");
   double sum = 0;
   for (vtkIdType i = 0; i < found->GetNumberOfTuples(); i++)
     sum += std::fabs(found->GetTuple1(i));
-  std::printf("%s %f\n", name, sum / static_cast<double>(found->GetNumberOfTuples()));
+  std::printf("mean %f\n", sum / static_cast<double>(found->GetNumberOfTuples()));
 }
 
 int main(int argc, char **argv) {
-  if (argc != 4)
+  if (argc != 3)
     return 2;
   vtkSMPTools::Initialize(1);
   vtkNew<vtkImageData> volume;
-  volume->SetDimensions(64, 64, 64);
+  volume->SetDimensions(side, side, side);
   volume->AllocateScalars(VTK_UNSIGNED_SHORT, 1);
-  FILE *file = std::fopen(argv[1], "rb");
-  size_t samples = 64 * 64 * 64;
-  if (!file || std::fread(volume->GetScalarPointer(), sizeof(uint16_t), samples, file) != samples)
+  size_t samples = static_cast<size_t>(side) * side * side;
+  if (std::fread(volume->GetScalarPointer(), sizeof(uint16_t), samples, stdin) != samples)
     return 1;
-  std::fclose(file);
-  double grey = std::atof(argv[2]);
-  int runs = std::atoi(argv[3]);
-  vtkNew<vtkFlyingEdges3D> edges;
-  set_up(edges.Get(), volume, grey);
-  median("vtkFlyingEdges3D", edges.Get(), runs);
-  vtkNew<vtkMarchingCubes> cubes;
-  set_up(cubes.Get(), volume, grey);
-  median("vtkMarchingCubes", cubes.Get(), runs);
+  int runs = std::max(1, std::atoi(argv[2]));
   int fewer = (runs + 9) / 10;
-  smooth("vtkSmoothPolyDataFilter,10", edges->GetOutput(), 10, fewer);
-  smooth("vtkSmoothPolyDataFilter,100", edges->GetOutput(), 100, fewer);
+  vtkNew<vtkFlyingEdges3D> edges;
+  surface(edges.Get(), volume, std::atof(argv[1]), runs);
+  std::printf("triangles %lld\n", static_cast<long long>(edges->GetOutput()->GetNumberOfPolys()));
+  smooth(edges->GetOutput(), fewer);
   connectivity(edges->GetOutput(), fewer);
   curvatures(edges->GetOutput(), fewer);
-  mean("mean", edges->GetOutput());
   return 0;
 }

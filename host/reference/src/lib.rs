@@ -12,7 +12,6 @@
 //! intermediate lists of this crate are its own vectors.
 
 #![forbid(unsafe_code)]
-#![warn(missing_docs)]
 
 pub mod cube;
 pub mod curvature;

@@ -4,7 +4,7 @@ use std::io::Read;
 
 use crate::asked::Asked;
 use crate::refused;
-use viewer::Refusal;
+use viewer::{Refusal, LEAST_SIDE, MOST_SIDE};
 
 pub struct Volume {
     pub sides: [u32; 3],
@@ -36,11 +36,17 @@ fn bytes(name: &str, standard_input: &mut dyn Read) -> Result<Vec<u8>, String> {
     std::fs::read(name).map_err(|error| format!("{name} cannot be read: {error}."))
 }
 
+/// Whether a side is one that the library refuses.
+fn too_far(sides: [u32; 3]) -> bool {
+    sides
+        .iter()
+        .any(|side| !(LEAST_SIDE..=MOST_SIDE).contains(side))
+}
+
 fn plain(sides: [u32; 3], grey: u16, bytes: &[u8]) -> Result<Volume, String> {
     let [nx, ny, nz] = sides;
     let count = u128::from(nx) * u128::from(ny) * u128::from(nz);
-    let too_far = sides.iter().any(|side| !(2..=64).contains(side));
-    if !too_far && 2 * count != bytes.len() as u128 {
+    if !too_far(sides) && 2 * count != bytes.len() as u128 {
         return Err(format!(
             "Refused with number 2: {}; the volume has {} bytes, and {nx} by {ny} by {nz} samples of two bytes are {}.",
             Refusal::Samples.words(),
@@ -90,7 +96,7 @@ fn text(bytes: &[u8]) -> Result<Volume, String> {
         .ok_or_else(|| malformed(1))?;
     let sides = [fields[0], fields[1], fields[2]].map(u32::from);
     let [nx, ny, nz] = sides.map(|side| side as usize);
-    if sides.iter().any(|side| !(2..=64).contains(side)) {
+    if too_far(sides) {
         return Err(refused(Refusal::Sides));
     }
     let mut samples = Vec::with_capacity(nx * ny * nz);

@@ -1,0 +1,74 @@
+//! The extractor, with rooms for the most points and triangles that a grid can give.
+
+use super::Call;
+use crate::subject::{Subject, GREY};
+
+#[derive(PartialEq)]
+pub struct Extraction {
+    points: Vec<u32>,
+    edges: Vec<u32>,
+    marks: Vec<u8>,
+    triangles: Vec<u32>,
+    work: Vec<u32>,
+}
+
+impl Call for Extraction {
+    const NAME: &'static str = "extraction";
+    const UNIT: &'static str = "sample";
+    const FILTER: &'static str = "vtkFlyingEdges3D";
+
+    fn lent(on: &Subject) -> Extraction {
+        let points = (3 * on.sample_count()).min(viewer::MOST_POINTS);
+        let triangles = (5 * on.sample_count()).min(viewer::MOST_TRIANGLES);
+        Extraction {
+            points: vec![1; 3 * points],
+            edges: vec![1; points],
+            marks: vec![1; points],
+            triangles: vec![1; 3 * triangles],
+            work: vec![1; viewer::extract_work(on.sample_count())],
+        }
+    }
+
+    fn library(&mut self, on: &Subject) -> u32 {
+        let rooms = viewer::Rooms {
+            points: &mut self.points,
+            edges: &mut self.edges,
+            marks: &mut self.marks,
+            triangles: &mut self.triangles,
+            work: &mut self.work,
+        };
+        viewer::extract([on.side; 3], GREY, &on.samples, rooms).number
+    }
+
+    fn reference(&mut self, on: &Subject) -> u32 {
+        let found = reference::extract::extract(
+            on.side,
+            on.side,
+            on.side,
+            GREY,
+            &on.samples,
+            &mut self.points,
+            &mut self.edges,
+            &mut self.marks,
+            &mut self.triangles,
+            &mut self.work,
+        );
+        found.number
+    }
+
+    fn same(library: &Extraction, reference: &Extraction) -> bool {
+        library == reference
+    }
+
+    fn input(on: &Subject) -> Subject {
+        on.grid()
+    }
+
+    fn units(on: &Subject) -> usize {
+        on.sample_count()
+    }
+
+    fn runs(asked: usize) -> usize {
+        asked
+    }
+}

@@ -1,0 +1,195 @@
+//! The calls as the library has them, on rooms that the caller lends. Each answers a number: 0 if granted, else the refusal's, which
+//! [`Refusal::check`](crate::Refusal::check) turns into a result.
+
+use crate::c;
+
+/// The least side of a grid.
+pub const LEAST_SIDE: u32 = 2;
+/// The greatest side of a grid.
+pub const MOST_SIDE: u32 = 64;
+/// The most points of a mesh.
+pub const MOST_POINTS: usize = 250_000;
+/// The most triangles of a mesh.
+pub const MOST_TRIANGLES: usize = 500_000;
+/// The greatest coordinate, in 1/256 of a voxel.
+pub const MOST_COORDINATE: u32 = 16_128;
+/// The most rounds of smoothing.
+pub const MOST_ROUNDS: u32 = 100;
+/// The greatest weight of smoothing, the whole way to the neighbours' mean.
+pub const MOST_WEIGHT: u32 = 256;
+
+/// The length of the extractor's work room for so many samples.
+pub const fn extract_work(samples: usize) -> usize {
+    3 * samples
+}
+
+/// The length of the work room of smoothing.
+pub const fn smooth_work(points: usize, triangles: usize) -> usize {
+    6 * triangles + 5 * points + 1
+}
+
+/// The length of the work room of the shell list.
+pub const fn shells_work(points: usize) -> usize {
+    2 * points
+}
+
+/// How many triangles a case of the cube has: 0 to 5.
+pub fn case_count(case: u8) -> u8 {
+    c::case_count(case)
+}
+
+/// The edge number at a place, 0 to 14, of a case's five triangles; 0 at any place beyond.
+pub fn case_edge(case: u8, place: u32) -> u8 {
+    c::case_edge(case, place)
+}
+
+/// What the extractor answers: number 0 and the two counts if granted, else the refusal's number and zero counts.
+#[derive(Clone, Copy, PartialEq, Eq, Debug)]
+pub struct Extracted {
+    /// 0 if granted, else the refusal's number.
+    pub number: u32,
+    /// How many points there are.
+    pub points: u32,
+    /// How many triangles there are.
+    pub triangles: u32,
+}
+
+/// The rooms of the extractor. It fills all but the last from the front, and the rest of each stays. A room for points or triangles counts its
+/// whole threes.
+pub struct Rooms<'a> {
+    /// Three coordinates a point, in 1/256 of a voxel.
+    pub points: &'a mut [u32],
+    /// The number of each point's grid edge.
+    pub edges: &'a mut [u32],
+    /// 1 for a point on an outer face of the grid, else 0.
+    pub marks: &'a mut [u8],
+    /// Three point numbers a triangle.
+    pub triangles: &'a mut [u32],
+    /// The work room, of exactly [`extract_work`] numbers.
+    pub work: &'a mut [u32],
+}
+
+/// The mesh of a grid at one grey value, into lent rooms. Sample (x, y, z) is samples[x + nx (y + ny z)]. Refusals: 1, 2, 3, 4, 5.
+pub fn extract(sides: [u32; 3], grey: u16, samples: &[u16], rooms: Rooms<'_>) -> Extracted {
+    let mut points = 0;
+    let mut triangles = 0;
+    let number = c::extract(
+        sides,
+        grey,
+        samples,
+        rooms.points,
+        rooms.edges,
+        rooms.marks,
+        rooms.triangles,
+        rooms.work,
+        &mut points,
+        &mut triangles,
+    );
+    Extracted {
+        number,
+        points,
+        triangles,
+    }
+}
+
+/// A mesh as a caller hands it in, lent. V is the length of the marks. Calls on it refuse with 6, 7, 8, 9 what it must not have.
+#[derive(Clone, Copy, Debug)]
+pub struct Mesh<'a> {
+    /// Three coordinates a point, in 1/256 of a voxel.
+    pub points: &'a [u32],
+    /// Three point numbers a triangle.
+    pub triangles: &'a [u32],
+    /// A mark a point: 1 on an outer face of the grid, else 0.
+    pub marks: &'a [u8],
+}
+
+/// Rounds of smoothing of a weight, into the second point list of 3V numbers, with a work room of exactly [`smooth_work`] numbers. Answers 0 if
+/// granted, else the refusal's number: 6, 7, 8, 9, 10, 3.
+pub fn smooth(
+    mesh: Mesh<'_>,
+    rounds: u32,
+    weight: u32,
+    smoothed: &mut [u32],
+    work: &mut [u32],
+) -> u32 {
+    c::smooth(
+        mesh.points,
+        mesh.triangles,
+        mesh.marks,
+        rounds,
+        weight,
+        smoothed,
+        work,
+    )
+}
+
+/// One point's coordinates out of the raw list, or out of the smoothed one if `second` is not 0. Answers 0 if granted, else the refusal's
+/// number, 6 or 14, and the place stays.
+pub fn show(raw: &[u32], smoothed: &[u32], second: u32, point: u32, place: &mut [u32; 3]) -> u32 {
+    c::show(raw, smoothed, second, point, place)
+}
+
+/// A shell's record, laid out as the library has it.
+#[repr(C)]
+#[derive(Clone, Copy, PartialEq, Eq, Debug, Default)]
+pub struct Shell {
+    /// Its lowest point.
+    pub low: u32,
+    /// How many points it has.
+    pub points: u32,
+    /// How many triangles it has.
+    pub triangles: u32,
+    /// 1 if any of its points is marked, and so on an outer face, else 0.
+    pub touches: u32,
+    /// Six times its volume in cubes of 1/256 of a voxel, negative for a void inside metal.
+    pub volume: i64,
+}
+
+/// What the shell list answers: number 0 and the count of shells if granted, else the refusal's number and count 0.
+#[derive(Clone, Copy, PartialEq, Eq, Debug)]
+pub struct Listed {
+    /// 0 if granted, else the refusal's number.
+    pub number: u32,
+    /// How many shells there are.
+    pub shells: u32,
+}
+
+/// The shells of a mesh: each point's shell number into `numbers`, of length V, and a record a shell from the front of `records`, with a work
+/// room of exactly [`shells_work`] numbers. Refusals: 6, 7, 8, 9, 3, 11.
+pub fn shells(
+    mesh: Mesh<'_>,
+    numbers: &mut [u32],
+    records: &mut [Shell],
+    work: &mut [u32],
+) -> Listed {
+    let mut shells = 0;
+    let number = c::shells(
+        mesh.points,
+        mesh.triangles,
+        mesh.marks,
+        numbers,
+        records,
+        work,
+        &mut shells,
+    );
+    Listed { number, shells }
+}
+
+/// Corner areas, one a point, and mean curvature vectors, three numbers a point, into lent rooms of exactly those lengths. Answers 0 if granted,
+/// else the refusal's number: 6, 7, 8, 9, 3.
+pub fn curvature(mesh: Mesh<'_>, areas: &mut [f64], vectors: &mut [f64]) -> u32 {
+    c::curvature(mesh.points, mesh.triangles, mesh.marks, areas, vectors)
+}
+
+/// One point's answer as the C side tells it: kind 0 open, 1 flat, 2 bent, and area, x, y, z, of which +0.0 stands for what a kind does not have.
+/// Answers 0 if granted, else the refusal's number, 6, 14 or 9, and all five stay.
+pub fn answer(
+    marks: &[u8],
+    areas: &[f64],
+    vectors: &[f64],
+    point: u32,
+    kind: &mut u32,
+    values: &mut [f64; 4],
+) -> u32 {
+    c::answer(marks, areas, vectors, point, kind, values)
+}

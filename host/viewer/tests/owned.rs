@@ -1,0 +1,91 @@
+//! The calls with their rooms owned: what they answer of document 01's figures, and each refusal that a caller of theirs can meet, as its enum.
+
+use viewer::{Answer, Mesh, Refusal, Shell, Surface};
+
+/// Document 01's figure of 3 by 3 by 3 samples: the centre is 100, all others 0, the grey value 50.
+fn figure() -> Surface {
+    let mut samples = [0; 27];
+    samples[13] = 100;
+    Surface::extract([3, 3, 3], 50, &samples).unwrap()
+}
+
+#[test]
+fn the_figure_of_one_sample() {
+    let surface = figure();
+    assert_eq!(surface.edges, [14, 31, 36, 39, 40, 41]);
+    assert_eq!(surface.marks, [0; 6]);
+    assert_eq!(surface.triangles.len(), 24);
+    assert_eq!(surface.triangles[..3], [2, 0, 1]);
+    let shells = surface.shells().unwrap();
+    let record = Shell {
+        low: 0,
+        points: 6,
+        triangles: 8,
+        touches: 0,
+        volume: 16_777_216,
+    };
+    assert_eq!(shells.numbers, [0; 6]);
+    assert_eq!(shells.records, [record]);
+    let smoothed = surface.smooth(1, 256).unwrap();
+    assert_eq!(smoothed.points, [256; 18]);
+    assert_eq!(smoothed.answers().unwrap(), [Answer::Flat; 6]);
+    assert!(matches!(
+        surface.answers().unwrap()[0],
+        Answer::Bent(area, _) if area > 0.0
+    ));
+}
+
+#[test]
+fn the_figure_of_one_triangle() {
+    let mesh = Mesh {
+        points: &[0, 0, 0, 256, 0, 0, 0, 256, 0],
+        triangles: &[0, 1, 2],
+        marks: &[1; 3],
+    };
+    let areas = [16_384.0, 8_192.0, 8_192.0];
+    assert_eq!(mesh.answers().unwrap(), areas.map(Answer::Open));
+    assert_eq!(mesh.smooth(100, 256).unwrap(), mesh.points);
+    assert_eq!(mesh.shells().unwrap().records[0].touches, 1);
+}
+
+#[test]
+fn a_grid_is_refused() {
+    let refused = |sides, samples: &[u16]| Surface::extract(sides, 1, samples).unwrap_err();
+    assert_eq!(refused([1, 2, 2], &[0; 4]), Refusal::Sides);
+    assert_eq!(refused([2, 2, 2], &[0; 7]), Refusal::Samples);
+    assert_eq!(refused([64; 3], &vec![0; 300_000]), Refusal::Samples);
+    let checkered: Vec<u16> = (0..64 * 64 * 64)
+        .map(|s| ((s ^ s >> 6 ^ s >> 12) & 1) as u16)
+        .collect();
+    assert_eq!(refused([64; 3], &checkered), Refusal::Points);
+}
+
+/// What all three calls on a mesh answer.
+fn refused(points: &[u32], triangles: &[u32], marks: &[u8]) -> Refusal {
+    let mesh = Mesh {
+        points,
+        triangles,
+        marks,
+    };
+    let refusal = mesh.shells().unwrap_err();
+    assert_eq!(mesh.smooth(0, 0).unwrap_err(), refusal);
+    assert_eq!(mesh.answers().unwrap_err(), refusal);
+    refusal
+}
+
+#[test]
+fn a_mesh_is_refused() {
+    assert_eq!(refused(&[0; 8], &[0, 1, 2], &[0; 3]), Refusal::Lengths);
+    let (many, marks) = (vec![0; 750_003], vec![0; 250_001]);
+    assert_eq!(refused(&many, &[], &marks), Refusal::Lengths);
+    let many = [0, 1, 2].repeat(500_001);
+    assert_eq!(refused(&[0; 9], &many, &[0; 3]), Refusal::Lengths);
+    assert_eq!(refused(&[0; 9], &[0, 1, 3], &[0; 3]), Refusal::Corners);
+    assert_eq!(refused(&[16_129; 9], &[], &[0; 3]), Refusal::Coordinate);
+    assert_eq!(refused(&[0; 9], &[], &[0, 2, 0]), Refusal::Mark);
+    let settings = [(101, 0), (0, 257)];
+    for (rounds, weight) in settings {
+        let refusal = figure().smooth(rounds, weight).unwrap_err();
+        assert_eq!(refusal, Refusal::Settings);
+    }
+}
