@@ -33,14 +33,14 @@ module _ (n : Size) (above : ℕ → Bool) where
   pub few-triangles : length (mesh n above) ≤ 5 * sampleCount n
   unfolding mesh edgeMesh
   few-triangles =
-      let f = λ (x : ℕ) (y : ℕ) (z : ℕ). length (cubeTriangles n above x y z) in
+      let f : ℕ → ℕ → ℕ → ℕ = λ x y z. length (cubeTriangles n above x y z) in
       let cx = n .nx - 1 in
       let cy = n .ny - 1 in
       let cz = n .nz - 1 in
       let long : length (mesh n above) ≡ sumTo cz (λ z. sumTo cy (λ y. sumTo cx (λ x. f x y z))) =
-          length-map (edgeMesh n above) (rename (number axes n above)) ∙ length-box cx cy cz (cubeTriangles n above) in
+      length-map (edgeMesh n above) (rename (number axes n above)) ∙ length-box cx cy cz (cubeTriangles n above) in
       let most : sumTo cz (λ z. sumTo cy (λ y. sumTo cx (λ x. f x y z))) ≤ 5 * cx * cy * cz =
-          sum-most (5 * cx * cy) cz _ (λ z lz. sum-most (5 * cx) cy _ (λ y ly. sum-most 5 cx _ (λ x lx. cube-few x y z))) in
-      let same : 5 * cx * cy * cz ≡ 5 * (cx * (cy * cz)) = rw (mul-assoc, mul-assoc, mul-assoc) in
+      sum-most (5 * cx * cy) cz _ (λ z lz. sum-most (5 * cx) cy _ (λ y ly. sum-most 5 cx _ (λ x lx. cube-few x y z))) in
+      let same : 5 * cx * cy * cz ≡ 5 * (cx * (cy * cz)) = rw (mul-assoc, mul-assoc) in
       let fewer : cx * (cy * cz) ≤ sampleCount n = mul-le-mul (omega arith) (mul-le-mul (omega arith) (omega arith)) in
       omega (arith, long, most, same, fewer)

@@ -2,3 +2,4 @@
 pub mod Few
 pub mod Steps
 pub mod Listed
+pub mod OneAnswer

@@ -21,6 +21,7 @@ use Rattle.text.specs.MeshText.{meshText}
 use Rattle.text.specs.Grid.{readGrid}
 use Rattle.text.specs.GridText.{Small, sizeOf, gridText}
 use Rattle.text.specs.declared.small.Head.{Head}
+use Rattle.text.specs.declared.small.Parsed.{Parsed}
 
 module _ (h : Head) (samples : List ℕ) where
   -- extract
@@ -48,8 +49,11 @@ pub record Prints (m : Mesh) (edges text : List ℕ) : Type 0 where
       let record-of = recordOf (m .points) (m .triangles) (m .marks) numbers in
       text ≡ meshText (m .points) edges (m .marks) (m .triangles) (joinTo shells (λ n. numbersOf (record-of n))) (listTo shells (λ n. record-of n .volume))
 
+-- an input as it is read
+abbrev pub parsed : List ℕ → Parsed
+parsed input = readGrid input (replicate mostSmall 0) .answer
+
 -- the text of a small grid is answered with the text of its smoothed mesh, any other input with its refusal
 pub data Answers (input text : List ℕ) : Type 0 where
   printed : (h : Head) (samples : List ℕ) → Small h samples → input ≡ gridText h samples → Prints (smoothedMesh h samples) (gridEdges h samples) text → Answers input text
-  refused : let parsed = readGrid input (replicate mostSmall 0) .answer in
-      (parsed .number ≡ 0 → ⊥) → text ≡ refusalText (parsed .number) (parsed .line) → Answers input text
+  refused : (parsed input .number ≡ 0 → ⊥) → text ≡ refusalText (parsed input .number) (parsed input .line) → Answers input text

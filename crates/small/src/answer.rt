@@ -1,4 +1,4 @@
-// What the program answers to its input: read, extract, smooth, list, write. All rooms are local, sized for the greatest numbers of a small grid.
+// What the program answers to its input: read, extract, smooth, list, write. All rooms are local.
 ghost use mathlib.Core.Path.{_≡_};
 ghost use Prim.Native.Nat.{_≤_};
 ghost use lib.ListN.{length, take};
@@ -7,20 +7,9 @@ ghost use Rattle.closed.specs.Left.{smoothed as smoothedBy};
 ghost use Rattle.small.specs.Sizes.{mostOutput};
 ghost use Rattle.small.specs.Answer.{gridEdges, smoothedMesh, Prints, Answers};
 ghost use Rattle.small.specs.Promise.{meshOf, SmallMesh, headIn, SmallGrid};
+use crate::zeros;
 use grid::limits::MOST_SMALL;
 use text::Parsed;
-
-// At most three grid edges leave a sample.
-const MOST_POINTS: usize = 3 * (MOST_SMALL as usize);
-
-// A case has at most five triangles, and there are fewer cubes than samples.
-const MOST_TRIANGLES: usize = 5 * (MOST_SMALL as usize);
-
-// Line 1 takes at most 38 bytes and a sample six; one more byte shows that something follows.
-pub const MOST_INPUT: usize = 38 + 6 * (MOST_SMALL as usize) + 1;
-
-// The longest text of a mesh with so many points, triangles and shells, of which there are no more than points.
-pub const MOST_OUTPUT: usize = 65 + 107 * MOST_POINTS + 65 * MOST_TRIANGLES + 107 * MOST_POINTS;
 
 // Lists the shells of a mesh and writes its text. Answers the text's length.
 fn write_listed(
@@ -35,10 +24,10 @@ fn write_listed(
     ensures text { λ r. ⌜ Prints (meshOf (now (points .entry)) (now (triangles .entry)) (now (marks .entry))) (now (edges .entry)) (take r (now (output .exit))) ⌝ }
 {
     let v = marks.len();
-    let mut numbers = [0u32; MOST_POINTS];
-    let mut work = [0u32; 2 * MOST_POINTS];
-    let mut records = [0u32; 4 * MOST_POINTS];
-    let mut volumes = [0i64; MOST_POINTS];
+    let mut numbers = zeros::numbers();
+    let mut work = zeros::listing();
+    let mut records = zeros::records();
+    let mut volumes = zeros::volumes();
     let listed = listing::list(
         points,
         triangles,
@@ -78,8 +67,8 @@ fn write_smoothed(
 {
     let v = marks.len();
     let t = triangles.len() / 3;
-    let mut smoothed = [0u32; 3 * MOST_POINTS];
-    let mut work = [0u32; 6 * MOST_TRIANGLES + 5 * MOST_POINTS + 1];
+    let mut smoothed = zeros::places();
+    let mut work = zeros::smoothing();
     smooth::smooth(
         points,
         triangles,
@@ -98,11 +87,11 @@ fn write_grid(grid: Parsed, samples: &[u16], output: &mut [u8]) -> usize
     ensures inside { λ r. ⌜ r ≤ length (now (output .exit)) ⌝ }
     ensures text { λ r. ⌜ Prints (smoothedMesh (headIn grid) (now (samples .entry))) (gridEdges (headIn grid) (now (samples .entry))) (take r (now (output .exit))) ⌝ }
 {
-    let mut points = [0u32; 3 * MOST_POINTS];
-    let mut edges = [0u32; MOST_POINTS];
-    let mut marks = [0u8; MOST_POINTS];
-    let mut triangles = [0u32; 3 * MOST_TRIANGLES];
-    let mut work = [0u32; MOST_POINTS];
+    let mut points = zeros::places();
+    let mut edges = zeros::numbers();
+    let mut marks = zeros::marks();
+    let mut triangles = zeros::triangles();
+    let mut work = zeros::numbers();
     let done = extract::extract(
         grid.nx,
         grid.ny,

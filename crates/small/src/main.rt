@@ -1,13 +1,14 @@
 // The program for small grids (document 01): the text of a grid from standard input, the text of its mesh to standard output.
 mod answer;
+mod zeros;
 
 use libc::STDIN_FILENO;
 use libc::STDOUT_FILENO;
 
 fn main() {
-    let mut input = [0u8; answer::MOST_INPUT];
+    let mut input = zeros::input();
     let n = io::read_full(STDIN_FILENO, &mut input);
-    let mut output = [0u8; answer::MOST_OUTPUT];
+    let mut output = zeros::output();
     let length = answer::answer(&input[..n], &mut output);
     io::write_all(STDOUT_FILENO, &output[..length]);
 }
