@@ -4,6 +4,7 @@ pub mod Places
 pub mod Lines
 pub mod Samples
 pub mod Checks
+pub mod Enough
 pub mod Texts
 pub mod GridTexts
 pub mod Examples

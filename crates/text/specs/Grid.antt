@@ -1,7 +1,7 @@
 -- The text of a small grid, read (document 01, "The program for small grids").
 use mathlib.Core.List.{List, [], _∷_}
 use mathlib.Core.Bool.{Bool, cond, not, _&&_}
-use Prim.Native.Nat.{ℕ, _*_}
+use Prim.Native.Nat.{ℕ, _+_, _*_}
 use lib.Dec.{eqb, leb, ltb}
 use lib.ListN.{length, getD}
 use Rattle.laws.specs.Room.{laid}
@@ -72,3 +72,8 @@ withHead room (got h rest) =
 
 unfoldable pub readGrid : List ℕ → List ℕ → Outcome
 readGrid input room = withHead room (readHead input)
+
+-- no more of a text is looked at: line 1 has at most 38 bytes (`G`, a tab, and six numbers of at most five digits, each with the byte that
+-- ends it), a sample has at most six, and one byte more shows that bytes follow
+abbrev pub mostRead : ℕ
+mostRead = 38 + 6 * mostSmall + 1
