@@ -1,15 +1,15 @@
 -- The shells of a small mesh are listed, and their records are read again from the fronts of the rooms.
-use mathlib.Core.Path.{_≡_, refl, ap, sym, _∙_, subst}
+use mathlib.Core.Path.{_≡_, refl, ap, ap₂, sym, _∙_, subst}
 use mathlib.Core.List.{List, _++_}
 use mathlib.Core.Bool.{Bool, true, false, cond, not, _&&_}
-use Prim.Native.Nat.{ℕ, _+_, _*_, _≤_, _<_}
+use Prim.Native.Nat.{ℕ, _+_, _*_, _/_, _%_, _≤_, _<_}
 use native.Mathlib.Nat.{mul-comm}
 use native.Mathlib.Omega.{arith}
-use lib.Dec.{eqb}
+use lib.Dec.{eqb, leb}
 use lib.IntN.{ℤ}
 use lib.ListN.{length, take, replicate}
 use lib.Seq.{take-at}
-use borrow.Author.Tests.{eq-eqb}
+use borrow.Author.Tests.{eq-eqb, le-leb}
 use Rattle.laws.specs.Range.{joinTo}
 use Rattle.laws.specs.Room.{laid}
 use Rattle.laws.specs.Values.{listTo}
@@ -17,11 +17,18 @@ use Rattle.laws.proofs.Rows.{length-rows}
 use Rattle.laws.proofs.Values.{length-list}
 use Rattle.mesh.specs.Mesh.{trianglesOf}
 use Rattle.mesh.specs.Check.{meshNumber}
+use Rattle.mesh.proofs.Passed.{passed}
 use Rattle.shells.specs.declared.Shell.{Shell}
 use Rattle.shells.specs.Numbering.{Numbering}
 use Rattle.shells.specs.Record.{recordOf}
 use Rattle.shells.specs.Promise.{Outcome, left, roomsFit, refusal, early, Lists, refused, crowded, granted}
 use Rattle.shells.proofs.Few.{no-more-than-points}
+use Rattle.text.specs.Writing.{outcome}
+use Rattle.text.specs.MeshText.{meshText, listsFit, recordsFit, Holds, meshWritten}
+use Rattle.text.proofs.Written.{written-read}
+use Rattle.text.proofs.MeshTexts.{mesh-written}
+use Rattle.small.specs.Answer.{Prints}
+use Rattle.small.specs.Promise.{meshOf, SmallMesh}
 use Rattle.listing.specs.Listing.{mostListed, numbersOf, numbersHanded, volumesHanded, Listing}
 
 -- what was handed on, read again
@@ -34,23 +41,23 @@ volumes-front : (count : ℕ) (shell : ℕ → Shell) (room : List ℤ) → take
 unfolding volumesHanded laid
 volumes-front count shell room = take-at (listTo count (λ n. shell n .volume)) _ count (length-list count (λ n. shell n .volume))
 
+-- the shells, and the records of so many of them
+pub record Told (points triangles marks : List ℕ) (o : Outcome) (records : List ℕ) (volumes : List ℤ) : Type 0 where
+  pub numbering : Numbering (trianglesOf triangles) (length marks) (o .numbers) (o .shells)
+  pub most : o .shells ≤ mostListed
+  pub numbers-are : take (4 * o .shells) records ≡ joinTo (o .shells) (λ n. numbersOf (recordOf points triangles marks (o .numbers) n))
+  pub volumes-are : take (o .shells) volumes ≡ listTo (o .shells) (λ n. recordOf points triangles marks (o .numbers) n .volume)
+
 module _ (points triangles marks numbers work : List ℕ) (passes : meshNumber points triangles marks ≡ 0) (few : length marks ≤ mostListed)
     (whole : length numbers ≡ length marks) (twice : length work ≡ 2 * length marks) where
   nothing-refused : early points triangles marks numbers work ≡ 0
   unfolding refusal roomsFit
   nothing-refused = rw (passes, eq-eqb (length numbers) (length marks) whole, eq-eqb (length work) (2 * length marks) twice)
 
-  -- the shells, and the records of so many of them
-  pub record Told (o : Outcome) (records : List ℕ) (volumes : List ℤ) : Type 0 where
-    pub numbering : Numbering (trianglesOf triangles) (length marks) (o .numbers) (o .shells)
-    pub most : o .shells ≤ mostListed
-    pub numbers-are : take (4 * o .shells) records ≡ joinTo (o .shells) (λ n. numbersOf (recordOf points triangles marks (o .numbers) n))
-    pub volumes-are : take (o .shells) volumes ≡ listTo (o .shells) (λ n. recordOf points triangles marks (o .numbers) n .volume)
-
-  pub told : (o : Outcome) (records records′ : List ℕ) (volumes volumes′ : List ℤ) → Listing points triangles marks numbers work records volumes o records′ volumes′ → Told o records′ volumes′
+  pub told : (o : Outcome) (records records′ : List ℕ) (volumes volumes′ : List ℤ) → Listing points triangles marks numbers work records volumes o records′ volumes′ → Told points triangles marks o records′ volumes′
   told o records records′ volumes volumes′ l = go (l .lists)
     where
-      go : Lists points triangles marks mostListed numbers work o → Told o records′ volumes′
+      go : Lists points triangles marks mostListed numbers work o → Told points triangles marks o records′ volumes′
       go (refused n e) = absurd (n nothing-refused)
       go (crowded z f s N m e) = absurd (omega (arith, m, few, no-more-than-points points triangles marks f s N))
       go (granted z f s N m e) =
@@ -60,3 +67,54 @@ module _ (points triangles marks numbers work : List ℕ) (passes : meshNumber p
             numbers-are = ap (take (4 * o .shells)) (l .record-numbers) ∙ numbers-front (o .shells) (recordOf points triangles marks (o .numbers)) records;
             volumes-are = ap (take (o .shells)) (l .record-volumes) ∙ volumes-front (o .shells) (recordOf points triangles marks (o .numbers)) volumes;
           }
+
+-- the numbers and the volumes are as many as the shells say
+module _ (points triangles marks : List ℕ) (o : Outcome) (records : List ℕ) (volumes : List ℤ) (t : Told points triangles marks o records volumes) where
+  pub numbers-many : length (take (4 * o .shells) records) ≡ 4 * o .shells
+  numbers-many =
+      ap length (t .numbers-are) ∙ (length-rows 4 (λ n. numbersOf (recordOf points triangles marks (o .numbers) n)) (λ n. refl) (o .shells) ∙ mul-comm (o .shells) 4)
+
+  pub volumes-many : length (take (o .shells) volumes) ≡ o .shells
+  volumes-many = ap length (t .volumes-are) ∙ length-list (o .shells) (λ n. recordOf points triangles marks (o .numbers) n .volume)
+
+  -- what is written of a small mesh is what is to be printed
+  module _ (edges room left : List ℕ) (number long : ℕ) (small : SmallMesh points edges marks triangles (length room)) where
+    lists-pass : listsFit (length points) (length edges) (length marks) (length triangles) ≡ true
+    unfolding listsFit
+    lists-pass =
+        let p = passed points triangles marks (small .passes) in
+        rw (
+          eq-eqb (length points) (3 * length marks) (p .threes),
+          eq-eqb (length edges) (length marks) (small .edged),
+          eq-eqb (length triangles % 3) 0 (omega (arith, p .whole)),
+          le-leb (length marks) 250000 (p .few),
+          le-leb (length triangles / 3) 500000 (p .triangles-few),
+        )
+
+    records-pass : recordsFit (length (take (4 * o .shells) records)) (length (take (o .shells) volumes)) ≡ true
+    unfolding recordsFit
+    records-pass =
+        rw (
+          numbers-many,
+          volumes-many,
+          eq-eqb (4 * o .shells) (4 * o .shells) refl,
+          le-leb (o .shells) 250000 (omega (arith, t .most)),
+        )
+
+    pub mesh-printed : Holds (length marks) (length triangles / 3) (length (take (o .shells) volumes)) (length room) number
+        → outcome number long left ≡ meshWritten points edges marks triangles (take (4 * o .shells) records) (take (o .shells) volumes) room
+        → (long ≤ length left) × Prints (meshOf points triangles marks) edges (take long left)
+    mesh-printed holds e =
+        let text = meshText points edges marks triangles (take (4 * o .shells) records) (take (o .shells) volumes) in
+        let not-short = holds (omega (arith, volumes-many, t .most, small .few-points, small .few-triangles, small .room)) in
+        let r =
+            written-read text room left number long not-short
+            (e ∙ sym (mesh-written points edges marks triangles (take (4 * o .shells) records) (take (o .shells) volumes) room lists-pass records-pass)) in (
+          r .0,
+          record {
+            numbers = o .numbers;
+            shells = o .shells;
+            numbering = t .numbering;
+            written = r .1 ∙ ap₂ (meshText points edges marks triangles) (t .numbers-are) (t .volumes-are);
+          },
+        )
