@@ -1,6 +1,7 @@
 -- The rooms hold every small grid; each step of the program is granted; the program's answer is the only one that its promise allows.
 pub mod Few
 pub mod Steps
+pub mod Read
 pub mod Extracted
 pub mod Listed
 pub mod OneAnswer

@@ -108,8 +108,8 @@ module _ (points triangles marks : List ℕ) (o : Outcome) (records : List ℕ) 
         let text = meshText points edges marks triangles (take (4 * o .shells) records) (take (o .shells) volumes) in
         let not-short = holds (omega (arith, volumes-many, t .most, small .few-points, small .few-triangles, small .room)) in
         let r =
-            written-read text room left number long not-short
-            (e ∙ sym (mesh-written points edges marks triangles (take (4 * o .shells) records) (take (o .shells) volumes) room lists-pass records-pass)) in (
+        written-read text room left number long not-short
+        (e ∙ sym (mesh-written points edges marks triangles (take (4 * o .shells) records) (take (o .shells) volumes) room lists-pass records-pass)) in (
           r .0,
           record {
             numbers = o .numbers;

@@ -1,3 +1,6 @@
+-- `small::main` meets its contract: every room lent is as long as it is asked to be. Assumes nothing.
+use mathlib.Core.Path.{sym}
+use lib.Seq.{length-take-le}
 use borrow.Author.Needs.{needs}
 use Rattle.small.proofs.main.Statement.{statement}
 use Rattle.small.proofs.main.Tie as tie
@@ -30,7 +33,7 @@ array-share-prefix-output : tie.Need-array-share-prefix-output
 array-share-prefix-output c = search needs
 
 slice-aggregate-write-all : tie.Need-slice-aggregate-write-all
-slice-aggregate-write-all c = ?
+slice-aggregate-write-all c = let a = c .before .before in sym (length-take-le (a .answer .result) (a .answer .last .1 .0) (a .answer .ensures .0))
 
 write-all-requires : tie.Need-write-all-requires
 write-all-requires c κs = search needs

@@ -1,4 +1,15 @@
+-- `small::answer::answer` meets its contract: a refusal is written as its line, and the grid of any other input as its mesh. Assumes nothing.
+use mathlib.Core.Path.{_≡_, ap, sym, _∙_}
+use Prim.Native.Nat.{ℕ, _*_, _≤_}
+use native.Mathlib.Omega.{arith}
+use lib.ListN.{length, take}
+use lib.Seq.{length-take-le}
 use borrow.Author.Needs.{needs}
+use Rattle.text.specs.Writing.{refusalText}
+use Rattle.text.specs.Grid.{samplesOf}
+use Rattle.text.proofs.Written.{written-read}
+use Rattle.small.specs.Promise.{headIn}
+use Rattle.small.proofs.Read.{refusal-answers, samples-few, rows-read, grid-small, grid-answers}
 use Rattle.small.proofs.answer.answer.Statement.{statement}
 use Rattle.small.proofs.answer.answer.Tie as tie
 
@@ -15,31 +26,53 @@ same-length : tie.Need-same-length
 same-length c = search needs
 
 returns : tie.Need-returns
-returns c = ?
+returns c =
+    let w = c .before .before in
+    let t = w .before .before in
+    let g = t .before .before .before in
+    let s = g .before .before .before .before in
+    let r = written-read (refusalText _ _) _ _ _ _ (w .write-refusal .ensures .0 (omega (arith, s .pre))) (w .write-refusal .ensures .1) in
+    (r .0, refusal-answers _ _ _ (g .read-grid .ensures) (t .if1 .taken) _ (r .1))
+
+-- past the refusal the samples are few, and those of a small grid
+module _ (c : tie.Else1) where
+  abbrev g : tie.After-read-grid
+  g = c .before .before .before
+
+  small : samplesOf (headIn (g .read-grid .result)) ≤ 512
+  small = samples-few _ _ _ (g .read-grid .ensures) (c .if1 .left)
+
+  samples-hold : samplesOf (headIn (g .read-grid .result)) ≤ length (g .read-grid .last .1 .0)
+  samples-hold = omega (arith, small, g .read-grid .kept .1 .0)
 
 mul-n : tie.Need-mul-n
-mul-n c = ?
+mul-n c = let e = c .before in omega (arith, rows-read _ _ _ (g e .read-grid .ensures) (e .if1 .left))
 
 mul-n-2 : tie.Need-mul-n-2
-mul-n-2 c = ?
+mul-n-2 c = omega (arith, small (c .before .before))
 
 cast-n : tie.Need-cast-n
-cast-n c = ?
+cast-n c = omega (arith, small (c .before .before))
 
 array-share-prefix-samples : tie.Need-array-share-prefix-samples
-array-share-prefix-samples c = ?
+array-share-prefix-samples c = samples-hold (c .before .before)
 
 slice-aggregate-write-grid : tie.Need-slice-aggregate-write-grid
-slice-aggregate-write-grid c = ?
+slice-aggregate-write-grid c = sym (length-take-le _ _ (samples-hold (c .before .before .before)))
 
 write-grid-requires : tie.Need-write-grid-requires
-write-grid-requires c κs = ?
+write-grid-requires c κs =
+    let e = c .before .before .before .before in
+    (grid-small _ _ _ (g e .read-grid .ensures) (e .if1 .left), g e .before .before .before .before .pre)
 
 same-length-2 : tie.Need-same-length-2
 same-length-2 c = search needs
 
 returns-2 : tie.Need-returns-2
-returns-2 c = ?
+returns-2 c =
+    let w = c .before .before in
+    let e = w .before .before .before .before .before in
+    (w .write-grid .ensures .0, grid-answers _ _ _ (g e .read-grid .ensures) (e .if1 .left) _ (w .write-grid .ensures .1))
 
 pub answer-spec : {M : Type 1} → statement M
 answer-spec =
