@@ -1,20 +1,25 @@
-//! Many inputs, each answered by a program of its own. Shells start the programs and not the tests: where the tests run under an emulator, each start of
-//! theirs would first copy the emulator with all that its threads hold.
+//! Many inputs, each answered by a program of its own. A shell starts the programs and not the test: where the tests run under an emulator, each start
+//! of theirs would first copy the emulator with all that its threads hold.
 
 use std::fs;
-use std::ops::Range;
 use std::path::{Path, PathBuf};
-use std::process::{Child, Command};
+use std::process::Command;
 use std::sync::atomic::{AtomicUsize, Ordering};
 
-/// Runs the words from the third on, on each of the inputs from one number to another. What ends badly or not at all leaves its status.
+/// Runs the words from the second on, on so many inputs, two at a time: the even and the odd ones. What ends badly or not at all leaves its status.
 const EACH: &str = r#"
-at=$1 end=$2
-shift 2
-while [ "$at" -lt "$end" ]; do
-  timeout 60 "$@" <"$at.in" >"$at.out" || echo "$?" >"$at.status"
-  at=$((at + 1))
+count=$1
+shift
+for first in 0 1; do
+  (
+    at=$first
+    while [ "$at" -lt "$count" ]; do
+      timeout 60 "$@" <"$at.in" >"$at.out" || echo "$?" >"$at.status"
+      at=$((at + 2))
+    done
+  ) &
 done
+wait
 "#;
 
 /// A folder that is gone when it is no longer needed.
@@ -37,14 +42,14 @@ impl Drop for Folder {
     }
 }
 
-fn start(folder: &Path, numbers: Range<usize>) -> Child {
-    Command::new("sh")
-        .args(["-c", EACH, "sh"])
-        .args([numbers.start, numbers.end].map(|number| number.to_string()))
+fn run_each(folder: &Path, count: usize) {
+    let status = Command::new("sh")
+        .args(["-c", EACH, "sh", &count.to_string()])
         .args(crate::words())
         .current_dir(folder)
-        .spawn()
-        .expect("there is a shell")
+        .status()
+        .expect("there is a shell");
+    assert!(status.success(), "the shell ended with {status}");
 }
 
 fn answer(folder: &Path, number: usize) -> Vec<u8> {
@@ -60,19 +65,14 @@ fn answer(folder: &Path, number: usize) -> Vec<u8> {
     fs::read(file("out")).expect("the shell wrote what the program said")
 }
 
-/// What the program answers to each of the inputs. Two programs run at a time.
+/// What the program answers to each of the inputs.
 pub fn answers(inputs: &[Vec<u8>]) -> Vec<Vec<u8>> {
     let folder = Folder::new();
     for (number, input) in inputs.iter().enumerate() {
         let file = folder.0.join(format!("{number}.in"));
         fs::write(file, input).expect("the folder for temporary files can be written");
     }
-    let half = inputs.len() / 2;
-    let shells = [0..half, half..inputs.len()].map(|numbers| start(&folder.0, numbers));
-    for mut shell in shells {
-        let status = shell.wait().expect("the shell can be waited for");
-        assert!(status.success(), "the shell ended with {status}");
-    }
+    run_each(&folder.0, inputs.len());
     (0..inputs.len())
         .map(|number| answer(&folder.0, number))
         .collect()

@@ -1,6 +1,6 @@
 //! What document 01 gives literally.
 
-use program::{hold, same, Grid};
+use program::{hold, same, same_all, Grid};
 
 /// The program answers exactly this text, and so does the reference.
 fn answers(input: &str, output: &str) {
@@ -64,20 +64,22 @@ fn the_limits_are_taken_and_what_is_past_them_refused() {
         weight,
         ..Grid::raw(sides, 1, |_| 0)
     };
-    for (grid, expected) in [
-        (empty([64, 2, 2], 100, 256), "M\t0\t0\t0\n"),
-        (empty([2, 64, 2], 100, 256), "M\t0\t0\t0\n"),
-        (empty([2, 2, 64], 100, 256), "M\t0\t0\t0\n"),
-        (empty([65, 2, 2], 0, 0), "R\t1\t0\n"),
-        (empty([2, 65, 2], 0, 0), "R\t1\t0\n"),
-        (empty([2, 2, 65], 0, 0), "R\t1\t0\n"),
-        (empty([1, 2, 2], 0, 0), "R\t1\t0\n"),
-        (empty([2, 1, 2], 0, 0), "R\t1\t0\n"),
-        (empty([2, 2, 1], 0, 0), "R\t1\t0\n"),
-        (empty([2, 2, 2], 101, 0), "R\t10\t0\n"),
-        (empty([2, 2, 2], 0, 257), "R\t10\t0\n"),
-    ] {
-        let input = grid.text();
-        hold(&input, &same(&input), expected.as_bytes());
+    let (granted, side, rounds) = ("M\t0\t0\t0\n", "R\t1\t0\n", "R\t10\t0\n");
+    let cases = [
+        (empty([64, 2, 2], 100, 256), granted),
+        (empty([2, 64, 2], 100, 256), granted),
+        (empty([2, 2, 64], 100, 256), granted),
+        (empty([65, 2, 2], 0, 0), side),
+        (empty([2, 65, 2], 0, 0), side),
+        (empty([2, 2, 65], 0, 0), side),
+        (empty([1, 2, 2], 0, 0), side),
+        (empty([2, 1, 2], 0, 0), side),
+        (empty([2, 2, 1], 0, 0), side),
+        (empty([2, 2, 2], 101, 0), rounds),
+        (empty([2, 2, 2], 0, 257), rounds),
+    ];
+    let inputs = cases.each_ref().map(|(grid, _)| grid.text());
+    for (at, found) in same_all(&inputs).iter().enumerate() {
+        hold(&inputs[at], found, cases[at].1.as_bytes());
     }
 }

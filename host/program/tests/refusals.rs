@@ -44,6 +44,8 @@ fn spoiled(line: &str) -> Vec<String> {
         format!("{}\t{}", &line[..last], "1".repeat(30)),
         format!("{}\t{}", &line[..last], "0".repeat(30)),
         format!("{}\tx", &line[..tab]),
+        format!("{}\t/", &line[..last]),
+        format!("{}\t1:", &line[..last]),
         format!("{}\t1.0{}", &line[..tab], &line[last..]),
     ]
 }
