@@ -1,5 +1,5 @@
 # make test   proves every crate from nothing, tries the must-fail edits, and runs the tests from outside
-# make run    lists the voids of the example casting
+# make run    runs the program on a small casting, then lists the voids of the example casting
 # make bench  times the library, on an x86-64 machine
 
 SHELL := bash
@@ -21,10 +21,14 @@ test:
 	tools/example
 	echo "$$verdict"
 
-# The list is all that is said, unless the library cannot be built.
+# What the program and the tool say is all that is said, unless one of them cannot be built.
 run:
 	@mkdir -p target
-	rt staticlib viewer >target/staticlib.log 2>&1 || { cat target/staticlib.log; exit 1; }
+	quietly() { "$$@" >target/run.log 2>&1 || { cat target/run.log; exit 1; }; }
+	quietly rt check small
+	quietly rt staticlib viewer
+	quietly tools/cargo build --quiet --manifest-path host/Cargo.toml --package tholbrina
+	tools/run target/bin/small <examples/small.txt
 	tools/cargo run --quiet --manifest-path host/Cargo.toml --package tholbrina -- list examples/casting.txt
 
 bench:
