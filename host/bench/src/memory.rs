@@ -27,27 +27,9 @@ pub fn said<C: Call>() -> Result<(), Failure> {
     Ok(())
 }
 
-/// The emulator that this program runs under, if it runs under one.
-pub fn emulator() -> Option<std::ffi::OsString> {
-    std::env::var_os("UNDER_EMULATOR")
-}
-
-/// This program again, under the same emulator.
-fn again() -> Result<Command, Failure> {
-    let program = std::env::current_exe()?;
-    Ok(match emulator() {
-        Some(emulator) => {
-            let mut command = Command::new(emulator);
-            command.arg(program);
-            command
-        }
-        None => Command::new(program),
-    })
-}
-
 /// The peak of one call of the library in a process of its own, in MB: what it reads, its rooms, and anything that it takes beside them.
 pub fn peak<C: Call>(on: &Subject) -> Result<f64, Failure> {
-    let mut child = again()?
+    let mut child = Command::new(std::env::current_exe()?)
         .args(["peak", C::NAME])
         .stdin(Stdio::piped())
         .stdout(Stdio::piped())

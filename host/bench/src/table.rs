@@ -100,9 +100,10 @@ fn rows(casting: &Casting, asked: &Asked) -> Result<BTreeMap<String, f64>, Failu
 
 /// What the columns are, in sentences.
 fn explain(asked: &Asked) {
-    if memory::emulator().is_some() {
+    if std::env::consts::ARCH != "x86_64" {
         println!(
-            "Under an emulator: this is the table's form, and its times and memory say nothing."
+            "The proved library's own module, compiled for {}: what is linked elsewhere is compiled for x86-64.",
+            std::env::consts::ARCH
         );
     }
     println!(
