@@ -16,10 +16,11 @@ use Rattle.laws.proofs.Tests.{all-at}
 use Rattle.grid.specs.Limits.{mostCoordinate}
 use Rattle.mesh.specs.Check.{allWithin}
 use Rattle.root.specs.Root.{windowTo}
-use Rattle.curvature.specs.declared.sides.Place.{Place}
+use Rattle.mesh.specs.declared.Place.{Place}
+use Rattle.mesh.specs.Place.{Near}
 use Rattle.curvature.specs.declared.sides.Side.{Side}
-use Rattle.curvature.specs.Sides.{placeOf, between, dot, cross, squared, dotAt, oppositeAt, crossAt}
-use Rattle.curvature.specs.Sizes.{Small, Within, SmallDots, mostProducts}
+use Rattle.curvature.specs.Sides.{between, dot, cross, squared, dotAt, oppositeAt, crossAt}
+use Rattle.curvature.specs.Sizes.{Within, SmallDots, mostProducts}
 use Rattle.curvature.specs.Corners.{dotsOf}
 use Rattle.curvature.proofs.Signed.{held, read-back, asked, learnt, size-times, size-plus, size-less, size-between}
 
@@ -49,7 +50,7 @@ pub minor-learnt : (a b c d : ℤ) {r : ℤ} → natAbs a ≤ mostCoordinate →
 minor-learnt a b c d la lb lc ld e =
     e ∙ rw (read-back a (small-held a la), read-back b (small-held b lb), read-back c (small-held c lc), read-back d (small-held d ld))
 
-pub between-within : (p q : Place) → Small p → Small q → Within mostCoordinate (between p q)
+pub between-within : (p q : Place) → Near p → Near q → Within mostCoordinate (between p q)
 unfolding between
 between-within p q hp hq =
     record {
@@ -87,7 +88,7 @@ squared-small m u h = omega (arith, square-small (u .x) m (h .x), square-small (
 pub within-more : (u : Side) → Within mostCoordinate u → Within (mostProducts 2) u
 within-more u h = record { x = omega (arith, h .x); y = omega (arith, h .y); z = omega (arith, h .z) }
 
-module _ (p q r : Place) (hp : Small p) (hq : Small q) (hr : Small r) where
+module _ (p q r : Place) (hp : Near p) (hq : Near q) (hr : Near r) where
   pub dot-at-small : natAbs (dotAt p q r) ≤ mostProducts 3
   unfolding dotAt
   dot-at-small = dot-small (between q p) (between r p) (between-within q p hq hp) (between-within r p hr hp)
@@ -102,20 +103,6 @@ module _ (p q r : Place) (hp : Small p) (hq : Small q) (hr : Small r) where
   cross-at-small =
       omega (arith, squared-small (mostProducts 2) (cross (between q p) (between r p)) (cross-within (between q p) (between r p) (between-within q p hq hp) (between-within r p hr hp)))
 
-pub dots-small : (p q r : Place) → Small p → Small q → Small r → SmallDots (dotsOf p q r)
+pub dots-small : (p q r : Place) → Near p → Near q → Near r → SmallDots (dotsOf p q r)
 unfolding dotsOf
 dots-small p q r hp hq hr = record { one = dot-at-small p q r hp hq hr; two = dot-at-small q r p hq hr hp; three = dot-at-small r p q hr hp hq }
-
--- the places of a mesh that passed the check
-coordinate-small : (points : List ℕ) (k : ℕ) → allWithin mostCoordinate points ≡ true → k < length points → getD points k 0 ≤ mostCoordinate
-unfolding allWithin
-coordinate-small points k h l = leb-true _ _ (all-at (length points) (λ i. leb (getD points i 0) mostCoordinate) h k l)
-
-pub place-small : (points : List ℕ) (p : ℕ) → allWithin mostCoordinate points ≡ true → 3 * p + 2 < length points → Small (placeOf points p)
-unfolding placeOf
-place-small points p h l =
-    record {
-      x = coordinate-small points (3 * p) h (omega arith);
-      y = coordinate-small points (3 * p + 1) h (omega arith);
-      z = coordinate-small points (3 * p + 2) h l;
-    }

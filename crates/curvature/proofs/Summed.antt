@@ -12,10 +12,11 @@ use Rattle.laws.specs.Mesh.{Triangle, triangle}
 use Rattle.laws.proofs.Tests.{both, all-at}
 use Rattle.mesh.specs.Mesh.{triangleAt, triangleCount}
 use Rattle.mesh.specs.Check.{namesThree, trianglesFit}
-use Rattle.curvature.specs.declared.sides.Place.{Place}
+use Rattle.mesh.specs.declared.Place.{Place}
+use Rattle.mesh.specs.Place.{placeOf}
 use Rattle.curvature.specs.declared.corners.Dots.{Dots}
 use Rattle.curvature.specs.declared.corners.Corners.{Corners}
-use Rattle.curvature.specs.Sides.{placeOf, crossAt}
+use Rattle.curvature.specs.Sides.{crossAt}
 use Rattle.curvature.specs.Corners.{dotsOf, squaresOf, doubleArea, cotangents, shares}
 use Rattle.curvature.specs.Sums.{Sum, atPoint, addCorner, addCorners, addPlaces, addTriangle, sumAfter}
 

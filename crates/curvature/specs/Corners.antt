@@ -4,7 +4,7 @@ use Prim.Native.Nat.{ℕ, _^_}
 use lib.IntN.{pos}
 use lib.Ieee.{Float, binary64, add, mul, div}
 use Rattle.root.specs.Root.{scaleOf, rootOf}
-use Rattle.curvature.specs.declared.sides.Place.{Place}
+use Rattle.mesh.specs.declared.Place.{Place}
 use Rattle.curvature.specs.declared.corners.Dots.{Dots}
 use Rattle.curvature.specs.declared.corners.Corners.{Corners}
 use Rattle.laws.specs.Signed.{negative}

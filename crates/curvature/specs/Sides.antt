@@ -3,12 +3,8 @@ use mathlib.Core.List.{List}
 use Prim.Native.Nat.{ℕ, _+_, _*_}
 use lib.ListN.{getD}
 use lib.IntN.{ℤ, pos, natAbs, _+ℤ_, _-ℤ_, _*ℤ_}
-use Rattle.curvature.specs.declared.sides.Place.{Place}
+use Rattle.mesh.specs.declared.Place.{Place}
 use Rattle.curvature.specs.declared.sides.Side.{Side}
-
--- the place of a point: its three coordinates
-unfoldable pub placeOf : List ℕ → ℕ → Place
-placeOf points p = record { x = getD points (3 * p) 0; y = getD points (3 * p + 1) 0; z = getD points (3 * p + 2) 0 }
 
 -- p - q: the side that leads to p from q
 unfoldable pub between : Place → Place → Side

@@ -2,15 +2,8 @@
 use Prim.Native.Nat.{ℕ, _*_, _≤_}
 use lib.IntN.{natAbs}
 use Rattle.grid.specs.Limits.{mostCoordinate}
-use Rattle.curvature.specs.declared.sides.Place.{Place}
 use Rattle.curvature.specs.declared.sides.Side.{Side}
 use Rattle.curvature.specs.declared.corners.Dots.{Dots}
-
--- no coordinate of a place is beyond the limit
-pub record Small (p : Place) : Type 0 where
-  pub x : p .x ≤ mostCoordinate
-  pub y : p .y ≤ mostCoordinate
-  pub z : p .z ≤ mostCoordinate
 
 -- no coordinate of a side is larger than `most` in size
 pub record Within (most : ℕ) (u : Side) : Type 0 where

@@ -6,10 +6,11 @@ use lib.Dec.{eqb}
 use lib.Ieee.{Float, binary64, add}
 use Rattle.laws.specs.Mesh.{Triangle}
 use Rattle.mesh.specs.Mesh.{triangleAt}
-use Rattle.curvature.specs.declared.sides.Place.{Place}
+use Rattle.mesh.specs.declared.Place.{Place}
+use Rattle.mesh.specs.Place.{placeOf}
 use Rattle.curvature.specs.declared.corners.Corners.{Corners}
 use Rattle.curvature.specs.declared.vectors.Vector.{Vector}
-use Rattle.curvature.specs.Sides.{placeOf, between, crossAt}
+use Rattle.curvature.specs.Sides.{between, crossAt}
 use Rattle.curvature.specs.Vectors.{plusZero, noVector, ofSide, plus, times}
 use Rattle.curvature.specs.Corners.{dotsOf, squaresOf, doubleArea, cotangents, shares}
 

@@ -3,14 +3,15 @@ ghost use mathlib.Core.Path.{_≡_};
 ghost use Prim.Native.Nat.{_^_, _<_};
 ghost use lib.IntN.{pos};
 ghost use Rattle.root.specs.Root.{windowTo};
+ghost use Rattle.mesh.specs.Place.{Near};
 ghost use Rattle.curvature.specs.Sides.{between, squared};
 ghost use Rattle.curvature.specs.Vectors.{whole};
-ghost use Rattle.curvature.specs.Sizes.{Small, SmallDots};
+ghost use Rattle.curvature.specs.Sizes.{SmallDots};
 ghost use Rattle.curvature.specs.Corners.{dotsOf as dotsAre, squaresOf as squaresAre, doubleArea, cotangents as cotangentsOf, acuteShare, acuteShares, shares as sharesOf};
 use crate::sides;
-use crate::sides::Place;
 use crate::whole;
 use laws::signed;
+use mesh::Place;
 
 // d at each corner.
 pub struct Dots {
@@ -27,7 +28,7 @@ pub struct Corners {
 }
 
 pub(crate) fn dots_of(p: Place, q: Place, r: Place) -> Dots
-    requires { ⌜ Small p × Small q × Small r ⌝ }
+    requires { ⌜ Near p × Near q × Near r ⌝ }
     ensures { λ d. ⌜ d ≡ dotsAre p q r ⌝ }
 {
     Dots {
@@ -39,7 +40,7 @@ pub(crate) fn dots_of(p: Place, q: Place, r: Place) -> Dots
 
 // The squared side that leads to r from q.
 fn squared_side(q: Place, r: Place) -> f64
-    requires { ⌜ Small q × Small r ⌝ }
+    requires { ⌜ Near q × Near r ⌝ }
     ensures { λ l. ⌜ l ≡ whole (pos (squared (between r q))) ⌝ }
 {
     whole::float_of_count(sides::squared(sides::minus(r, q)))
@@ -47,7 +48,7 @@ fn squared_side(q: Place, r: Place) -> f64
 
 // L at each corner: the squared side opposite it.
 pub(crate) fn squares_of(p: Place, q: Place, r: Place) -> Corners
-    requires { ⌜ Small p × Small q × Small r ⌝ }
+    requires { ⌜ Near p × Near q × Near r ⌝ }
     ensures { λ l. ⌜ l ≡ squaresAre p q r ⌝ }
 {
     Corners {

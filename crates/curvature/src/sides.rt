@@ -1,36 +1,19 @@
 // A triangle in whole numbers: places, the sides between them, and their products.
 ghost use mathlib.Core.Path.{_≡_};
 ghost use Prim.Native.Nat.{_+_, _*_, _<_, _≤_};
-ghost use lib.ListN.{length};
 ghost use lib.IntN.{natAbs, _-ℤ_, _*ℤ_};
 ghost use Rattle.grid.specs.Limits.{mostCoordinate};
-ghost use Rattle.curvature.specs.Sides.{placeOf, between, dot as dotOf, cross as crossOf, squared as squaredOf, dotAt as dotIs, crossAt as crossIs};
-ghost use Rattle.curvature.specs.Sizes.{Small, Within, mostProducts};
+ghost use Rattle.mesh.specs.Place.{Near};
+ghost use Rattle.curvature.specs.Sides.{between, dot as dotOf, cross as crossOf, squared as squaredOf, dotAt as dotIs, crossAt as crossIs};
+ghost use Rattle.curvature.specs.Sizes.{Within, mostProducts};
 use crate::whole;
-
-pub struct Place {
-    pub x: u32,
-    pub y: u32,
-    pub z: u32,
-}
+use mesh::Place;
 
 // What leads from one place to another.
 pub struct Side {
     pub x: i64,
     pub y: i64,
     pub z: i64,
-}
-
-pub(crate) fn place_at(points: &[u32], p: usize) -> Place
-    requires { ⌜ 3 * p + 2 < length (now points) ⌝ }
-    ensures { λ r. ⌜ r ≡ placeOf (now (points .entry)) p ⌝ }
-{
-    let at = 3 * p;
-    Place {
-        x: points[at],
-        y: points[at + 1],
-        z: points[at + 2],
-    }
 }
 
 // The side that leads to p from q.
@@ -85,7 +68,7 @@ pub(crate) fn squared(u: Side) -> u64
 
 // The dot product of the two sides that leave corner p of the triangle p, q, r.
 pub(crate) fn dot_at(p: Place, q: Place, r: Place) -> i64
-    requires { ⌜ Small p × Small q × Small r ⌝ }
+    requires { ⌜ Near p × Near q × Near r ⌝ }
     ensures { λ d. ⌜ d ≡ dotIs p q r ⌝ }
 {
     dot(minus(q, p), minus(r, p))
@@ -93,7 +76,7 @@ pub(crate) fn dot_at(p: Place, q: Place, r: Place) -> i64
 
 // The squared cross product of the same sides.
 pub(crate) fn cross_at(p: Place, q: Place, r: Place) -> u64
-    requires { ⌜ Small p × Small q × Small r ⌝ }
+    requires { ⌜ Near p × Near q × Near r ⌝ }
     ensures { λ n. ⌜ n ≡ crossIs p q r ⌝ }
 {
     squared(cross(minus(q, p), minus(r, p)))

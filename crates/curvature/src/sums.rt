@@ -8,15 +8,15 @@ ghost use Rattle.laws.specs.Mesh.{triangle};
 ghost use Rattle.mesh.specs.Mesh.{triangleCount};
 ghost use Rattle.mesh.specs.Check.{trianglesFit};
 ghost use Rattle.curvature.specs.Sides.{crossAt};
-ghost use Rattle.curvature.specs.Sizes.{Small};
+ghost use Rattle.mesh.specs.Place.{Near};
 ghost use Rattle.curvature.specs.Vectors.{plusZero};
 ghost use Rattle.curvature.specs.Sums.{addSides, addCorner, atPoint, addPlaces, addTriangle, sumAfter};
 ghost use Rattle.curvature.specs.Rooms.{sumAt, RoomsFit};
 use crate::corners;
 use crate::sides;
-use crate::sides::Place;
 use crate::vectors;
 use crate::vectors::Vector;
+use mesh::Place;
 
 // Sums start at +0.0.
 pub(crate) fn clear(room: &mut [f64])
@@ -31,7 +31,7 @@ pub(crate) fn clear(room: &mut [f64])
 
 // The running vector at corner p of the triangle p, q, r, with the cotangents at q and r.
 fn add_sides(before: Vector, p: Place, q: Place, r: Place, cotj: f64, cotk: f64) -> Vector
-    requires { ⌜ Small p × Small q × Small r ⌝ }
+    requires { ⌜ Near p × Near q × Near r ⌝ }
     ensures { λ v. ⌜ v ≡ addSides p q r cotj cotk before ⌝ }
 {
     let first = Vector::of_side(sides::minus(p, q)).times(cotk);
@@ -52,7 +52,7 @@ fn add_corner(
     cotk: f64,
 )
     requires { ⌜ (point < length (now areas)) × (length (now vectors) ≡ 3 * length (now areas)) ⌝ }
-    requires { ⌜ Small p × Small q × Small r ⌝ }
+    requires { ⌜ Near p × Near q × Near r ⌝ }
     ensures { λ _. ⌜ ((x : ℕ) → sumAt (now (areas .exit)) (now (vectors .exit)) x ≡ atPoint point x (addCorner p q r share cotj cotk) (sumAt (now (areas .entry)) (now (vectors .entry)) x)) ⌝ }
 {
     areas[point] = areas[point] + share;
@@ -74,7 +74,7 @@ fn add_places(
     n: u64,
 )
     requires { ⌜ (a < length (now areas)) × (b < length (now areas)) × (c < length (now areas)) × (length (now vectors) ≡ 3 * length (now areas)) ⌝ }
-    requires { ⌜ Small p × Small q × Small r ⌝ }
+    requires { ⌜ Near p × Near q × Near r ⌝ }
     requires { ⌜ (0 < n) × (n ≡ crossAt p q r) ⌝ }
     ensures { λ _. ⌜ ((x : ℕ) → sumAt (now (areas .exit)) (now (vectors .exit)) x ≡ addPlaces (triangle a b c) p q r x (sumAt (now (areas .entry)) (now (vectors .entry)) x)) ⌝ }
 {
@@ -100,9 +100,9 @@ fn add_triangle(
     requires { ⌜ RoomsFit (now points) (now areas) (now vectors) ⌝ }
     ensures { λ _. ⌜ ((x : ℕ) → sumAt (now (areas .exit)) (now (vectors .exit)) x ≡ addTriangle (now (points .entry)) (triangle a b c) x (sumAt (now (areas .entry)) (now (vectors .entry)) x)) ⌝ }
 {
-    let p = sides::place_at(points, a);
-    let q = sides::place_at(points, b);
-    let r = sides::place_at(points, c);
+    let p = mesh::place_of(points, a);
+    let q = mesh::place_of(points, b);
+    let r = mesh::place_of(points, c);
     let n = sides::cross_at(p, q, r);
     if n != 0 {
         add_places(areas, vectors, a, b, c, p, q, r, n);

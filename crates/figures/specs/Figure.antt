@@ -12,7 +12,8 @@ use lib.IntN.{pos}
 use lib.Ieee.{Float}
 use Rattle.root.specs.Root.{scaleOf}
 use Rattle.curvature.specs.declared.corners.Corners.{Corners}
-use Rattle.curvature.specs.Sides.{placeOf, crossAt}
+use Rattle.mesh.specs.Place.{placeOf}
+use Rattle.curvature.specs.Sides.{crossAt}
 use Rattle.curvature.specs.Vectors.{whole}
 use Rattle.curvature.specs.Corners.{corners, dotsOf, squaresOf, doubleArea, cotangents, shares}
 

@@ -3,15 +3,15 @@ use mathlib.Core.Path.{_≡_, refl}
 use mathlib.Core.List.{List}
 use mathlib.Core.Bool.{Bool, true, false, cond, not}
 use Prim.Native.Nat.{ℕ, zero, suc, _+_, _*_, _/_, _%_, _<_, _≤_}
-use native.Mathlib.Decide.{decLt}
 use native.Mathlib.Omega.{arith}
 use lib.Dec.{eqb, leb, ltb}
-use lib.ListN.{length, getD, List·getD-eq-default}
+use lib.ListN.{length, getD}
 use borrow.Author.Tests.{eqb-true, leb-true, ltb-true}
 use Rattle.laws.specs.Mesh.{Triangle}
 use Rattle.laws.proofs.Tests.{both, all-at}
 use Rattle.grid.specs.Limits.{mostPoints, mostTriangles, mostCoordinate}
 use Rattle.mesh.specs.Mesh.{triangleCount, triangleAt}
+use Rattle.mesh.proofs.Places.{within-any}
 use Rattle.mesh.specs.Check.{lengthsFit, namesThree, trianglesFit, allWithin, meshNumber}
 
 -- each of the four tests passed
@@ -54,7 +54,7 @@ passed points triangles marks h =
       few = leb-true (length marks) mostPoints (c .0);
       triangles-few = leb-true (triangleCount triangles) mostTriangles (c .1);
       named = λ k l. corner (t .1) (k / 3) (k % 3) k (omega arith) (omega arith) (omega (arith, threes));
-      small = λ i. coordinate (t .2) i (decLt i (length points));
+      small = λ i. within-any mostCoordinate points i (t .2);
     }
   where
     corner : trianglesFit triangles (length marks) ≡ true → (i j k : ℕ) → k ≡ 3 * i + j → j < 3 → i < triangleCount triangles → getD triangles k 0 < length marks
@@ -68,10 +68,6 @@ passed points triangles marks h =
         go (suc zero) l c = c .1
         go (suc (suc zero)) l c = c .2
         go (suc (suc (suc j))) l c = absurd (omega arith)
-
-    coordinate : allWithin mostCoordinate points ≡ true → (i : ℕ) → Dec (i < length points) → getD points i 0 ≤ mostCoordinate
-    coordinate fits i (yes l) = leb-true (getD points i 0) mostCoordinate (all-at (length points) (λ i. leb (getD points i 0) mostCoordinate) fits i l)
-    coordinate fits i (no l) = let e : getD points i 0 ≡ 0 = List·getD-eq-default points 0 (omega arith) in omega arith
 
 -- other points for the same triangles and marks pass if there are as many, none too far
 pub passes-again : (points triangles marks new : List ℕ) → meshNumber points triangles marks ≡ 0 → length new ≡ length points

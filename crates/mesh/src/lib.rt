@@ -1,12 +1,35 @@
-// What a caller's mesh must pass, for every call on a mesh.
+// What a caller's mesh must pass, for every call on a mesh, and where its points stand.
 ghost use mathlib.Core.Path.{_≡_};
+ghost use Prim.Native.Nat.{_+_, _*_, _<_};
+ghost use lib.ListN.{length};
 ghost use Rattle.grid.specs.Limits.{mostCoordinate};
 ghost use Rattle.laws.specs.Mesh.{triangle};
 ghost use Rattle.mesh.specs.Check.{lengthsFit, namesThree, trianglesFit, allWithin};
+ghost use Rattle.mesh.specs.Place.{placeOf};
 ghost use Rattle.mesh.specs.Promise.{Checked};
 use grid::limits::MOST_COORDINATE;
 use grid::limits::MOST_POINTS;
 use grid::limits::MOST_TRIANGLES;
+
+// Where a point stands.
+pub struct Place {
+    pub x: u32,
+    pub y: u32,
+    pub z: u32,
+}
+
+// Where point p stands.
+pub fn place_of(points: &[u32], p: usize) -> Place
+    requires { ⌜ 3 * p + 2 < length (now points) ⌝ }
+    ensures { λ r. ⌜ r ≡ placeOf (now (points .entry)) p ⌝ }
+{
+    let at = 3 * p;
+    Place {
+        x: points[at],
+        y: points[at + 1],
+        z: points[at + 2],
+    }
+}
 
 // Are there three coordinates a point and three numbers a triangle, and not too many of either?
 fn lengths_fit(points: usize, triangles: usize, v: usize) -> bool

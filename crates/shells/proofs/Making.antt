@@ -18,9 +18,10 @@ use Rattle.laws.proofs.Sums.{sum-bounded}
 use Rattle.grid.specs.Limits.{mostPoints, mostTriangles, mostCoordinate}
 use Rattle.mesh.specs.Mesh.{triangleAt}
 use Rattle.mesh.specs.Check.{allWithin}
-use Rattle.shells.specs.Record.{anyOf, placeOf, diagonals, determinant, sixfold, recordFrom}
-use Rattle.shells.specs.Grown.{none, withPoint, withTriangle, PointFits, TriangleFits, Near, mostProduct}
-use Rattle.shells.proofs.Sound.{within-any}
+use Rattle.shells.specs.Record.{anyOf, diagonals, determinant, sixfold, recordFrom}
+use Rattle.shells.specs.Grown.{none, withPoint, withTriangle, PointFits, TriangleFits, mostProduct}
+use Rattle.mesh.specs.Place.{placeOf}
+use Rattle.mesh.proofs.Places.{near-place}
 use Rattle.shells.proofs.Sizes.{diagonals-small}
 
 -- ---- one point, one triangle more
@@ -68,14 +69,6 @@ module _ (points triangles marks : List ℕ) where
   point-fits ps ks l = omega (arith, l)
 
   module _ (near : allWithin mostCoordinate points ≡ true) where
-    near-place : (p : ℕ) → Near (placeOf points p)
-    near-place p =
-        record {
-          x = within-any mostCoordinate points (3 * p) near;
-          y = within-any mostCoordinate points (3 * p + 1) near;
-          z = within-any mostCoordinate points (3 * p + 2) near;
-        }
-
     gain : ℕ → ℕ
     gain k = let t = triangleAt triangles k in diagonals (placeOf points (t .one)) (placeOf points (t .two)) (placeOf points (t .three))
 
@@ -89,8 +82,8 @@ module _ (points triangles marks : List ℕ) where
         = λ f h. omega (arith, sum-bounded (3 * mostProduct) f h ks, mul-le-mul-right (3 * mostProduct) l) in
         subst (SFits w64) (sym (sum-differences gain loss ks))
         (difference-fits (sumOf gain ks) (sumOf loss ks)
-        (small gain (λ k. diagonals-small _ _ _ (near-place (triangleAt triangles k .one)) (near-place (triangleAt triangles k .two)) (near-place (triangleAt triangles k .three))))
-        (small loss (λ k. diagonals-small _ _ _ (near-place (triangleAt triangles k .three)) (near-place (triangleAt triangles k .two)) (near-place (triangleAt triangles k .one)))))
+        (small gain (λ k. diagonals-small _ _ _ (near-place points near (triangleAt triangles k .one)) (near-place points near (triangleAt triangles k .two)) (near-place points near (triangleAt triangles k .three))))
+        (small loss (λ k. diagonals-small _ _ _ (near-place points near (triangleAt triangles k .three)) (near-place points near (triangleAt triangles k .two)) (near-place points near (triangleAt triangles k .one)))))
 
     pub triangle-fits : (ps ks : List ℕ) (k : ℕ) → length ks < mostTriangles → TriangleFits (sixfold points (triangleAt triangles k)) (recordFrom points triangles marks ps ks)
     unfolding recordFrom

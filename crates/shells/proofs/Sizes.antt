@@ -3,9 +3,10 @@ use Prim.Native.Nat.{ℕ, _*_, _≤_}
 use native.Mathlib.Nat.{mul-le-mul}
 use native.Mathlib.Omega.{arith}
 use Rattle.grid.specs.Limits.{mostCoordinate}
-use Rattle.shells.specs.declared.volume.Place.{Place}
+use Rattle.mesh.specs.declared.Place.{Place}
+use Rattle.mesh.specs.Place.{Near}
 use Rattle.shells.specs.Record.{diagonals}
-use Rattle.shells.specs.Grown.{Near, mostProduct}
+use Rattle.shells.specs.Grown.{mostProduct}
 
 pub product-small : (a b c : ℕ) → a ≤ mostCoordinate → b ≤ mostCoordinate → c ≤ mostCoordinate → a * b * c ≤ mostProduct
 product-small a b c ha hb hc = mul-le-mul (mul-le-mul ha hb) hc

@@ -69,19 +69,6 @@ passed points triangles marks numbers work h =
       work-long = eqb-true _ _ (r .1);
     }
 
--- a list whose elements are within a limit
-pub within : (most : ℕ) (xs : List ℕ) (i : ℕ) → allWithin most xs ≡ true → i < length xs → getD xs i 0 ≤ most
-unfolding allWithin
-within most xs i h l = leb-true _ _ (all-at (length xs) (λ k. leb (getD xs k 0) most) h i l)
-
--- a place beyond its end reads as 0
-pub within-any : (most : ℕ) (xs : List ℕ) (i : ℕ) → allWithin most xs ≡ true → getD xs i 0 ≤ most
-within-any most xs i h = go (decLt i (length xs))
-  where
-    go : Dec (i < length xs) → getD xs i 0 ≤ most
-    go (yes l) = within most xs i h l
-    go (no ge) = omega (arith, List·getD-eq-default xs 0 {n = i} (omega arith))
-
 pub record Corners (v : ℕ) (t : Triangle) : Type 0 where
   pub first : t .one < v
   pub second : t .two < v

@@ -11,7 +11,6 @@ use mir.Val.{SFits}
 use Rattle.grid.specs.Limits.{mostPoints, mostCoordinate}
 use Rattle.mesh.specs.Mesh.{triangleCount, triangleAt}
 use Rattle.mesh.specs.Check.{trianglesFit, allWithin}
-use Rattle.shells.specs.declared.volume.Place.{Place}
 use Rattle.shells.specs.declared.Shell.{Shell}
 use Rattle.shells.specs.Numbering.{numberOf}
 use Rattle.shells.specs.Record.{sixfold}
@@ -48,12 +47,6 @@ pub record TriangleFits (d : ℤ) (s : Shell) : Type 0 where
 pub record MeshFits (points triangles : List ℕ) : Type 0 where
   pub corners : trianglesFit triangles (length points / 3) ≡ true
   pub near : allWithin mostCoordinate points ≡ true
-
--- a place within the limit
-pub record Near (p : Place) : Type 0 where
-  pub x : p .x ≤ mostCoordinate
-  pub y : p .y ≤ mostCoordinate
-  pub z : p .z ≤ mostCoordinate
 
 -- the greatest product of three coordinates
 abbrev pub mostProduct : ℕ

@@ -9,7 +9,8 @@ use Rattle.laws.specs.Range.{keepTo, one-if}
 use Rattle.laws.specs.Signed.{sumOfℤ}
 use Rattle.laws.specs.Mesh.{Triangle}
 use Rattle.mesh.specs.Mesh.{triangleCount, triangleAt}
-use Rattle.shells.specs.declared.volume.Place.{Place}
+use Rattle.mesh.specs.declared.Place.{Place}
+use Rattle.mesh.specs.Place.{placeOf}
 use Rattle.shells.specs.declared.Shell.{Shell}
 use Rattle.shells.specs.Numbering.{numberOf}
 
@@ -17,10 +18,6 @@ use Rattle.shells.specs.Numbering.{numberOf}
 unfoldable pub anyOf : {A : Type 0} → (A → Bool) → List A → Bool
 anyOf p [] = false
 anyOf p (x ∷ xs) = p x || anyOf p xs
-
--- where a point stands
-abbrev pub placeOf : List ℕ → ℕ → Place
-placeOf points p = record { x = getD points (3 * p) 0; y = getD points (3 * p + 1) 0; z = getD points (3 * p + 2) 0 }
 
 -- three points as rows: the products along the three diagonals that go down to the right
 unfoldable pub diagonals : Place → Place → Place → ℕ

@@ -1,51 +1,22 @@
 // The determinant of a triangle's three points as rows: six times the volume between the triangle and the origin.
 ghost use mathlib.Core.Path.{_≡_};
-ghost use mathlib.Core.Bool.{true};
-ghost use Prim.Native.Nat.{_+_, _*_, _<_, _≤_};
-ghost use lib.ListN.{length};
+ghost use Prim.Native.Nat.{_*_, _<_, _≤_};
 ghost use mir.Syntax.{w64};
 ghost use mir.Val.{SFits};
 ghost use Rattle.grid.specs.Limits.{mostCoordinate};
 ghost use Rattle.mesh.specs.Mesh.{triangleCount, triangleAt};
-ghost use Rattle.mesh.specs.Check.{allWithin};
-ghost use Rattle.shells.specs.Record.{placeOf, diagonals as diagonalsOf, sixfold as sixfoldOf};
-ghost use Rattle.shells.specs.Grown.{MeshFits, Near, mostProduct};
+ghost use Rattle.mesh.specs.Place.{Near};
+ghost use Rattle.shells.specs.Record.{diagonals as diagonalsOf, sixfold as sixfoldOf};
+ghost use Rattle.shells.specs.Grown.{MeshFits, mostProduct};
 use crate::sets::wide;
-
-// Where a point stands.
-struct Place {
-    x: u64,
-    y: u64,
-    z: u64,
-}
-
-// Where point p stands.
-fn place_of(points: &[u32], p: usize) -> Place
-    requires { ⌜ 3 * p + 2 < length (now points) ⌝ }
-    requires { ⌜ allWithin mostCoordinate (now points) ≡ true ⌝ }
-    ensures { λ r. ⌜ r ≡ placeOf (now (points .entry)) p ⌝ }
-    ensures { λ r. ⌜ Near r ⌝ }
-{
-    let at = 3 * p;
-    Place {
-        x: long(points[at]),
-        y: long(points[at + 1]),
-        z: long(points[at + 2]),
-    }
-}
-
-fn long(x: u32) -> u64
-    ensures { λ r. ⌜ r ≡ x ⌝ }
-{
-    x as u64
-}
+use mesh::Place;
 
 // The product of three coordinates.
-fn product(a: u64, b: u64, c: u64) -> u64
+fn product(a: u32, b: u32, c: u32) -> u64
     requires { ⌜ (a ≤ mostCoordinate) × (b ≤ mostCoordinate) × (c ≤ mostCoordinate) ⌝ }
     ensures { λ r. ⌜ (r ≡ a * b * c) × (r ≤ mostProduct) ⌝ }
 {
-    a * b * c
+    (a as u64) * (b as u64) * (c as u64)
 }
 
 // Three points as rows: the products along the three diagonals that go down to the right.
@@ -66,8 +37,8 @@ pub fn sixfold(points: &[u32], triangles: &[u32], k: usize) -> i64
     ensures { λ r. ⌜ SFits w64 r ⌝ }
 {
     let at = 3 * k;
-    let a = place_of(points, wide(triangles[at]));
-    let b = place_of(points, wide(triangles[at + 1]));
-    let c = place_of(points, wide(triangles[at + 2]));
+    let a = mesh::place_of(points, wide(triangles[at]));
+    let b = mesh::place_of(points, wide(triangles[at + 1]));
+    let c = mesh::place_of(points, wide(triangles[at + 2]));
     laws::signed::excess(diagonals(a, b, c), diagonals(c, b, a))
 }

@@ -4,29 +4,29 @@ use native.Mathlib.Nat.{pos-of-ne-zero}
 use native.Mathlib.Omega.{arith}
 use borrow.Author.Needs.{needs}
 use Rattle.laws.specs.Mesh.{triangle}
-use Rattle.curvature.specs.Sizes.{Small}
-use Rattle.curvature.proofs.Bounds.{place-small}
+use Rattle.mesh.specs.Place.{Near}
+use Rattle.mesh.proofs.Places.{near-place}
 use Rattle.curvature.proofs.Summed.{nothing-added, something-added, cross-of, same-places}
 use Rattle.curvature.proofs.sums.add_triangle.Statement.{statement}
 use Rattle.curvature.proofs.sums.add_triangle.Tie as tie
 
-three-small : (c : tie.After-place-at3) → Small (c .before .before .place-at .result) × Small (c .before .place-at2 .result) × Small (c .place-at3 .result)
+three-small : (c : tie.After-place-of3) → Near (c .before .before .place-of .result) × Near (c .before .place-of2 .result) × Near (c .place-of3 .result)
 three-small c =
     let s = c .before .before .before .before .before .before in
     let fit = s .pre .1 in (
-      rw (c .before .before .place-at .ensures) (place-small (s .args .points .now) (s .args .a) (fit .coordinates-fit) (omega (arith, fit .points-fit, s .pre .0 .0))),
-      rw (c .before .place-at2 .ensures) (place-small (s .args .points .now) (s .args .b) (fit .coordinates-fit) (omega (arith, fit .points-fit, s .pre .0 .1))),
-      rw (c .place-at3 .ensures) (place-small (s .args .points .now) (s .args .c) (fit .coordinates-fit) (omega (arith, fit .points-fit, s .pre .0 .2))),
+      rw (c .before .before .place-of .ensures) (near-place (s .args .points .now) (fit .coordinates-fit) (s .args .a)),
+      rw (c .before .place-of2 .ensures) (near-place (s .args .points .now) (fit .coordinates-fit) (s .args .b)),
+      rw (c .place-of3 .ensures) (near-place (s .args .points .now) (fit .coordinates-fit) (s .args .c)),
     )
 
-place-at-requires : tie.Need-place-at-requires
-place-at-requires c κs = search needs
+place-of-requires : tie.Need-place-of-requires
+place-of-requires c κs = search needs
 
-place-at-requires-2 : tie.Need-place-at-requires-2
-place-at-requires-2 c κs = search needs
+place-of-requires-2 : tie.Need-place-of-requires-2
+place-of-requires-2 c κs = search needs
 
-place-at-requires-3 : tie.Need-place-at-requires-3
-place-at-requires-3 c κs = search needs
+place-of-requires-3 : tie.Need-place-of-requires-3
+place-of-requires-3 c κs = search needs
 
 cross-at-requires : tie.Need-cross-at-requires
 cross-at-requires c κs = three-small c
@@ -47,9 +47,9 @@ returns : tie.Need-returns
 returns c = λ x.
     let s = c .before .before .before .before .before .before .before .before .before .before .before .before .before .before .before in
     let a = s .args in
-    let one = c .before .before .before .before .before .before .before .before .before .before .before .place-at .ensures in
-    let two = c .before .before .before .before .before .before .before .before .before .before .place-at2 .ensures in
-    let three = c .before .before .before .before .before .before .before .before .before .place-at3 .ensures in
+    let one = c .before .before .before .before .before .before .before .before .before .before .before .place-of .ensures in
+    let two = c .before .before .before .before .before .before .before .before .before .before .place-of2 .ensures in
+    let three = c .before .before .before .before .before .before .before .before .before .place-of3 .ensures in
     let n = c .before .before .before .before .before .before .before .before .cross-at .ensures in
     c .before .before .before .before .add-places .ensures x
     ∙ same-places (triangle (a .a) (a .b) (a .c)) x _ one two three
@@ -59,18 +59,18 @@ returns-2 : tie.Need-returns-2
 returns-2 c = λ x.
     let s = c .before .before .before .before .before .before .before .before in
     let a = s .args in
-    let one = c .before .before .before .before .place-at .ensures in
-    let two = c .before .before .before .place-at2 .ensures in
-    let three = c .before .before .place-at3 .ensures in
+    let one = c .before .before .before .before .place-of .ensures in
+    let two = c .before .before .before .place-of2 .ensures in
+    let three = c .before .before .place-of3 .ensures in
     nothing-added (a .points .now) (triangle (a .a) (a .b) (a .c)) x _ (sym (cross-of (c .before .cross-at .ensures) one two three) ∙ c .if1 .left)
 
 pub add-triangle-spec : {M : Type 1} → statement M
 add-triangle-spec =
     tie.close
     (tie.spec
-    place-at-requires
-    place-at-requires-2
-    place-at-requires-3
+    place-of-requires
+    place-of-requires-2
+    place-of-requires-3
     cross-at-requires
     add-places-requires
     same-length

@@ -10,9 +10,10 @@ use mir.Val.{SFits}
 use mir.Facts.{toZ-ofZ}
 use Rattle.laws.proofs.Differences.{difference-fits}
 use Rattle.laws.specs.Mesh.{triangle}
-use Rattle.shells.specs.declared.volume.Place.{Place}
-use Rattle.shells.specs.Record.{placeOf, diagonals, determinant, sixfold}
-use Rattle.shells.specs.Grown.{Near}
+use Rattle.mesh.specs.declared.Place.{Place}
+use Rattle.shells.specs.Record.{diagonals, determinant, sixfold}
+use Rattle.mesh.specs.Place.{placeOf, Near}
+use Rattle.mesh.proofs.Places.{near-place}
 use Rattle.shells.proofs.Sound.{corners}
 use Rattle.shells.proofs.Sizes.{diagonals-small}
 use borrow.Author.Needs.{needs}
@@ -48,7 +49,7 @@ place-of-requires : tie.Need-place-of-requires
 place-of-requires c κs =
     let g = c .before .before .before .before in
     let t = corners (g .args .triangles .now) (length (g .args .points .now) / 3) (g .args .k) (g .pre .0 .corners) (g .pre .1) in
-    (omega (arith, c .wide .ensures, t .first), g .pre .0 .near)
+    omega (arith, c .wide .ensures, t .first)
 
 add-wide : tie.Need-add-wide
 add-wide c = search needs
@@ -66,7 +67,7 @@ place-of-requires-2 : tie.Need-place-of-requires-2
 place-of-requires-2 c κs =
     let g = c .before .before .before .before .before .before .before in
     let t = corners (g .args .triangles .now) (length (g .args .points .now) / 3) (g .args .k) (g .pre .0 .corners) (g .pre .1) in
-    (omega (arith, c .wide2 .ensures, t .second), g .pre .0 .near)
+    omega (arith, c .wide2 .ensures, t .second)
 
 add-wide-2 : tie.Need-add-wide-2
 add-wide-2 c = search needs
@@ -84,21 +85,33 @@ place-of-requires-3 : tie.Need-place-of-requires-3
 place-of-requires-3 c κs =
     let g = c .before .before .before .before .before .before .before .before .before .before in
     let t = corners (g .args .triangles .now) (length (g .args .points .now) / 3) (g .args .k) (g .pre .0 .corners) (g .pre .1) in
-    (omega (arith, c .wide3 .ensures, t .third), g .pre .0 .near)
+    omega (arith, c .wide3 .ensures, t .third)
+
+-- each place is within the limit
+first-near : (c : tie.After-place-of) → Near (c .place-of .result)
+first-near c = let g = c .before .before .before .before .before in subst Near (sym (c .place-of .ensures)) (near-place (g .args .points .now) (g .pre .0 .near) _)
+
+second-near : (c : tie.After-place-of2) → Near (c .place-of2 .result)
+second-near c = let g = c .before .before .before .before .before .before .before .before in subst Near (sym (c .place-of2 .ensures)) (near-place (g .args .points .now) (g .pre .0 .near) _)
+
+third-near : (c : tie.After-place-of3) → Near (c .place-of3 .result)
+third-near c =
+    let g = c .before .before .before .before .before .before .before .before .before .before .before in
+    subst Near (sym (c .place-of3 .ensures)) (near-place (g .args .points .now) (g .pre .0 .near) _)
 
 diagonals-requires : tie.Need-diagonals-requires
-diagonals-requires c κs = search needs
+diagonals-requires c κs = (first-near (c .before .before .before .before .before .before), (second-near (c .before .before .before), third-near c))
 
 diagonals-requires-2 : tie.Need-diagonals-requires-2
-diagonals-requires-2 c κs = search needs
+diagonals-requires-2 c κs = (third-near (c .before), (second-near (c .before .before .before .before), first-near (c .before .before .before .before .before .before .before)))
 
 excess-requires : tie.Need-excess-requires
 excess-requires c κs =
     let z = c .before .before in
     let y = c .before .before .before .before .before in
     let x = c .before .before .before .before .before .before .before .before in (
-      small _ (x .place-of .result) (y .place-of2 .result) (z .place-of3 .result) (x .place-of .ensures .1) (y .place-of2 .ensures .1) (z .place-of3 .ensures .1) (c .before .diagonals .ensures),
-      small _ (z .place-of3 .result) (y .place-of2 .result) (x .place-of .result) (z .place-of3 .ensures .1) (y .place-of2 .ensures .1) (x .place-of .ensures .1) (c .diagonals2 .ensures),
+      small _ (x .place-of .result) (y .place-of2 .result) (z .place-of3 .result) (first-near x) (second-near y) (third-near z) (c .before .diagonals .ensures),
+      small _ (z .place-of3 .result) (y .place-of2 .result) (x .place-of .result) (third-near z) (second-near y) (first-near x) (c .diagonals2 .ensures),
     )
 
 returns : tie.Need-returns
@@ -109,11 +122,11 @@ returns c =
     let x = c .before .before .before .before .before .before .before .before .before in
     let g = x .before .before .before .before .before in
     let fine = fits (c .excess .result) (d .diagonals .result) (c .before .diagonals2 .result)
-    (small _ (x .place-of .result) (y .place-of2 .result) (z .place-of3 .result) (x .place-of .ensures .1) (y .place-of2 .ensures .1) (z .place-of3 .ensures .1) (d .diagonals .ensures))
-    (small _ (z .place-of3 .result) (y .place-of2 .result) (x .place-of .result) (z .place-of3 .ensures .1) (y .place-of2 .ensures .1) (x .place-of .ensures .1) (c .before .diagonals2 .ensures))
+    (small _ (x .place-of .result) (y .place-of2 .result) (z .place-of3 .result) (first-near x) (second-near y) (third-near z) (d .diagonals .ensures))
+    (small _ (z .place-of3 .result) (y .place-of2 .result) (x .place-of .result) (third-near z) (second-near y) (first-near x) (c .before .diagonals2 .ensures))
     (c .excess .ensures) in
     let e = toZ-ofZ {w = w64} fine in
-    (e ∙ told (g .args .points .now) (c .excess .result) (d .diagonals .result) (c .before .diagonals2 .result) _ _ _ _ _ _ (x .place-of .result) (y .place-of2 .result) (z .place-of3 .result) (c .excess .ensures) (d .diagonals .ensures) (c .before .diagonals2 .ensures) (x .place-of .ensures .0) (y .place-of2 .ensures .0) (z .place-of3 .ensures .0) (x .before .wide .ensures) (y .before .wide2 .ensures) (z .before .wide3 .ensures), subst (SFits w64) (sym e) fine)
+    (e ∙ told (g .args .points .now) (c .excess .result) (d .diagonals .result) (c .before .diagonals2 .result) _ _ _ _ _ _ (x .place-of .result) (y .place-of2 .result) (z .place-of3 .result) (c .excess .ensures) (d .diagonals .ensures) (c .before .diagonals2 .ensures) (x .place-of .ensures) (y .place-of2 .ensures) (z .place-of3 .ensures) (x .before .wide .ensures) (y .before .wide2 .ensures) (z .before .wide3 .ensures), subst (SFits w64) (sym e) fine)
 
 pub sixfold-spec : {M : Type 1} → statement M
 sixfold-spec =

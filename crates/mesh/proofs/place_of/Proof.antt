@@ -1,9 +1,8 @@
--- `curvature::sides::place_at` meets its contract. Assumes nothing.
+-- `mesh::place_of` meets its contract. Assumes nothing.
 use mathlib.Core.Path.{refl}
 use borrow.Author.Needs.{needs}
-use Rattle.curvature.specs.Sides.{placeOf}
-use Rattle.curvature.proofs.sides.place_at.Statement.{statement}
-use Rattle.curvature.proofs.sides.place_at.Tie as tie
+use Rattle.mesh.proofs.place_of.Statement.{statement}
+use Rattle.mesh.proofs.place_of.Tie as tie
 
 mul-at : tie.Need-mul-at
 mul-at c = search needs
@@ -33,11 +32,10 @@ shared-slice-read-t14 : tie.Need-shared-slice-read-t14
 shared-slice-read-t14 c = search needs
 
 returns : tie.Need-returns
-unfolding placeOf
 returns c = refl
 
-pub place-at-spec : {M : Type 1} → statement M
-place-at-spec =
+pub place-of-spec : {M : Type 1} → statement M
+place-of-spec =
     tie.close
     (tie.spec
     mul-at
