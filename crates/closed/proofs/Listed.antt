@@ -25,7 +25,9 @@ use Rattle.shells.specs.declared.Shell.{Shell}
 use Rattle.shells.specs.Numbering.{numberOf, Numbering}
 use Rattle.shells.specs.Record.{anyOf, pointsUnder, recordFrom, recordOf}
 use Rattle.shells.specs.Promise.{Outcome, Lists, refused, crowded, granted, recordsAfter, Shells}
-use Rattle.shells.proofs.Sound.{passed, corners, within-any}
+use Rattle.mesh.proofs.Places.{within-any}
+use Rattle.mesh.proofs.Passed.{corners}
+use Rattle.shells.proofs.Sound.{passed}
 use Rattle.shells.proofs.Leading.{led-first, led-second}
 use Rattle.shells.proofs.Lows.{by-lowest, lows-rise}
 use Rattle.shells.proofs.Totals.{all-triangles}
@@ -68,8 +70,8 @@ module _ (m : Mesh) (numbers work : List ℕ) (room : List Shell) (o : Outcome) 
           let p = passed (m .points) (m .triangles) (m .marks) (length numbers) (length work) z in
           record {
             numbering = rw (ap (λ x. x .numbers) e, ap (λ x. x .shells) e) N;
-            corners-fit = p .corners-fit;
-            marks-fit = p .marks-fit;
+            corners-fit = p .mesh .corners-fit;
+            marks-fit = p .mesh .marks-fit;
           }
 
   abbrev N : Numbering (trianglesOf (m .triangles)) (length (m .marks)) (o .numbers) (o .shells)

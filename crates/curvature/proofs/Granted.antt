@@ -52,31 +52,6 @@ rows-of-three n f vectors l h =
     ∙ three-numbers vectors x r (f x) (omega arith) (h x small)
     ∙ sym (ap (λ k. getD (joinTo n (λ y. numbersOf (f y))) k nan) row ∙ entry-at 3 (λ y. numbersOf (f y)) (λ k. refl) n x r nan small (omega arith)))
 
--- the checks of the mesh
-pub record Passed (points triangles marks : List ℕ) : Type 0 where
-  pub points-fit : length points ≡ 3 * length marks
-  pub triangles-fit : trianglesFit triangles (length marks) ≡ true
-  pub coordinates-fit : allWithin mostCoordinate points ≡ true
-  pub marks-fit : allWithin 1 marks ≡ true
-
-tests-passed : (a b c d : Bool) → _≡_ {A = ℕ} (cond (not a) 6 (cond (not b) 7 (cond (not c) 8 (cond (not d) 9 0)))) 0 → (a ≡ true) × (b ≡ true) × (c ≡ true) × (d ≡ true)
-tests-passed true true true true h = (refl, refl, refl, refl)
-tests-passed true true true false h = absurd (omega arith)
-tests-passed true true false d h = absurd (omega arith)
-tests-passed true false c d h = absurd (omega arith)
-tests-passed false b c d h = absurd (omega arith)
-
-pub passed : (points triangles marks : List ℕ) → meshNumber points triangles marks ≡ 0 → Passed points triangles marks
-unfolding meshNumber lengthsFit
-passed points triangles marks h =
-    let t = tests-passed (lengthsFit (length points) (length triangles) (length marks)) (trianglesFit triangles (length marks)) (allWithin mostCoordinate points) (allWithin 1 marks) h in
-    record {
-      points-fit = eqb-true _ _ (both (eqb (length points) (3 * length marks)) _ (t .0) .0);
-      triangles-fit = t .1;
-      coordinates-fit = t .2;
-      marks-fit = t .3;
-    }
-
 module _ (points triangles marks : List ℕ) (areas vectors : List Float) where
   pub refused-mesh : (n : ℕ) → n ≡ meshNumber points triangles marks → (n ≡ 0 → ⊥) → left n areas vectors ≡ outcome points triangles marks areas vectors
   unfolding outcome

@@ -21,7 +21,7 @@ use Rattle.curvature.specs.Sums.{Sum}
 use Rattle.curvature.specs.Answers.{answerOf, answer, storedVector, answerAt}
 use Rattle.curvature.specs.Outcome.{Outcome, sumOf, answerFor, granted, outcome}
 use Rattle.curvature.specs.Promise.{Curves, ReadsBack}
-use Rattle.curvature.proofs.Granted.{passed}
+use Rattle.mesh.proofs.Passed.{passed}
 use Rattle.curvature.proofs.Readings.{answered}
 use Rattle.curvature.proofs.OneOutcome.{one-reading}
 

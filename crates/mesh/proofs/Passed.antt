@@ -28,17 +28,31 @@ pub record Passed (points triangles marks : List ℕ) : Type 0 where
   pub whole : length triangles ≡ 3 * triangleCount triangles
   pub few : length marks ≤ mostPoints
   pub triangles-few : triangleCount triangles ≤ mostTriangles
+  pub corners-fit : trianglesFit triangles (length marks) ≡ true
+  pub coordinates-fit : allWithin mostCoordinate points ≡ true
+  pub marks-fit : allWithin 1 marks ≡ true
   pub named : (k : ℕ) → k < length triangles → getD triangles k 0 < length marks
   pub small : (i : ℕ) → getD points i 0 ≤ mostCoordinate
 
 -- the corners of a triangle that names three points
-three-below : (v : ℕ) (t : Triangle) → namesThree v t ≡ true → (t .one < v) × (t .two < v) × (t .three < v)
+pub record Corners (v : ℕ) (t : Triangle) : Type 0 where
+  pub first : t .one < v
+  pub second : t .two < v
+  pub third : t .three < v
+
+corners-of : (v : ℕ) (t : Triangle) → namesThree v t ≡ true → Corners v t
 unfolding namesThree
-three-below v t h =
+corners-of v t h =
     let a = both (ltb (t .one) v) _ h in
     let b = both (ltb (t .two) v) _ (a .1) in
     let c = both (ltb (t .three) v) _ (b .1) in
-    (ltb-true (t .one) v (a .0), ltb-true (t .two) v (b .0), ltb-true (t .three) v (c .0))
+    record { first = ltb-true _ _ (a .0); second = ltb-true _ _ (b .0); third = ltb-true _ _ (c .0) }
+
+-- every triangle names points below v
+pub corners : (triangles : List ℕ) (v k : ℕ) → trianglesFit triangles v ≡ true → k < triangleCount triangles → Corners v (triangleAt triangles k)
+unfolding trianglesFit
+corners triangles v k h l =
+    corners-of v (triangleAt triangles k) (all-at (triangleCount triangles) (λ i. namesThree v (triangleAt triangles i)) h k l)
 
 pub passed : (points triangles marks : List ℕ) → meshNumber points triangles marks ≡ 0 → Passed points triangles marks
 unfolding meshNumber lengthsFit trianglesFit allWithin
@@ -53,20 +67,21 @@ passed points triangles marks h =
       whole = threes;
       few = leb-true (length marks) mostPoints (c .0);
       triangles-few = leb-true (triangleCount triangles) mostTriangles (c .1);
+      corners-fit = t .1;
+      coordinates-fit = t .2;
+      marks-fit = t .3;
       named = λ k l. corner (t .1) (k / 3) (k % 3) k (omega arith) (omega arith) (omega (arith, threes));
       small = λ i. within-any mostCoordinate points i (t .2);
     }
   where
     corner : trianglesFit triangles (length marks) ≡ true → (i j k : ℕ) → k ≡ 3 * i + j → j < 3 → i < triangleCount triangles → getD triangles k 0 < length marks
     corner fits i j k is l m =
-        let c = three-below (length marks) (triangleAt triangles i) (all-at (triangleCount triangles) (λ i. namesThree (length marks) (triangleAt triangles i)) fits i m) in
-        rw is (go j l c)
+        rw is (go j l (corners triangles (length marks) i fits m))
       where
-        go : (j : ℕ) → j < 3 → (getD triangles (3 * i) 0 < length marks) × (getD triangles (3 * i + 1) 0 < length marks) × (getD triangles (3 * i + 2) 0 < length marks)
-            → getD triangles (3 * i + j) 0 < length marks
-        go zero l c = let e : 3 * i + 0 ≡ 3 * i = omega arith in rw e (c .0)
-        go (suc zero) l c = c .1
-        go (suc (suc zero)) l c = c .2
+        go : (j : ℕ) → j < 3 → Corners (length marks) (triangleAt triangles i) → getD triangles (3 * i + j) 0 < length marks
+        go zero l c = let e : 3 * i + 0 ≡ 3 * i = omega arith in rw e (c .first)
+        go (suc zero) l c = c .second
+        go (suc (suc zero)) l c = c .third
         go (suc (suc (suc j))) l c = absurd (omega arith)
 
 -- other points for the same triangles and marks pass if there are as many, none too far

@@ -29,4 +29,4 @@ module _ (points triangles marks numbers work : List ℕ) (room : List Shell) {n
       go : Lists points triangles marks (length room) numbers work (left number shells found cleared) → shells ≤ mostPoints
       go (refused n e) = omega (arith, ap (λ o. o .shells) e)
       go (crowded z f n N m e) = omega (arith, ap (λ o. o .shells) e)
-      go (granted z f n N m e) = omega (arith, ap (λ o. o .shells) e, no-more-than-points points triangles marks f n N, passed points triangles marks (length numbers) (length work) z .few-points)
+      go (granted z f n N m e) = omega (arith, ap (λ o. o .shells) e, no-more-than-points points triangles marks f n N, passed points triangles marks (length numbers) (length work) z .mesh .few)

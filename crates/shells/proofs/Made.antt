@@ -23,7 +23,8 @@ use Rattle.shells.specs.declared.Shell.{Shell}
 use Rattle.shells.specs.Numbering.{numberOf, Numbering}
 use Rattle.shells.specs.Record.{sixfold, pointsUnder, namesUnder, trianglesUnder, recordFrom, recordOf}
 use Rattle.shells.specs.Grown.{none, withPoint, withTriangle, PointFits, TriangleFits, changed, emptied, pointsAdded, trianglesAdded, filled, PointTurn, TriangleTurn, FillFits}
-use Rattle.shells.proofs.Sound.{Passed, corners}
+use Rattle.mesh.proofs.Passed.{corners}
+use Rattle.shells.proofs.Sound.{Passed}
 use Rattle.shells.proofs.OneNumber.{one-number}
 use Rattle.shells.proofs.Making.{with-point, with-triangle, no-record, point-fits, triangle-fits}
 
@@ -130,7 +131,7 @@ module _ (points triangles marks numbers : List ℕ) (shells : ℕ) (room : List
 module _ (points triangles marks found : List ℕ) (shells : ℕ) (room : List Shell) (numbers work : ℕ) (ok : Passed points triangles marks numbers work)
     (N : Numbering (trianglesOf triangles) (length marks) found shells) (enough : shells ≤ length room) where
   fit : trianglesFit triangles (length found) ≡ true
-  fit = subst (λ v. trianglesFit triangles v ≡ true) (sym (N .long)) (ok .corners-fit)
+  fit = subst (λ v. trianglesFit triangles v ≡ true) (sym (N .long)) (ok .mesh .corners-fit)
 
   below : (p : ℕ) → p < length found → numberOf found p < shells
   below p l = N .small p (omega (arith, N .long))
@@ -156,11 +157,11 @@ module _ (points triangles marks found : List ℕ) (shells : ℕ) (room : List S
       record {
         small = l;
         marked = omega (arith, N .long);
-        few = ok .few-points;
+        few = ok .mesh .few;
         numbered = omega (arith, below j l, ap length e, long points triangles marks found shells room enough j 0);
         room =
             subst PointFits (sym (ap (λ ys. getD ys n none) e ∙ at points triangles marks found shells room enough j 0 n (below j l)))
-            (point-fits points triangles marks (keepTo j has) _ (omega (arith, length-keep j has, count-most j has, N .long, ok .few-points)));
+            (point-fits points triangles marks (keepTo j has) _ (omega (arith, length-keep j has, count-most j has, N .long, ok .mesh .few)));
       }
 
   triangle-turn : (k : ℕ) → k < triangleCount triangles
@@ -169,16 +170,16 @@ module _ (points triangles marks found : List ℕ) (shells : ℕ) (room : List S
       let e = triangles-to k (omega arith) in
       let n = numberOf found (triangleAt triangles k .one) in
       let has = hasTriangle points triangles marks found shells room enough n in
-      let third : length points / 3 ≡ length marks = omega (arith, ok .places) in
+      let third : length points / 3 ≡ length marks = omega (arith, ok .mesh .threes) in
       record {
         small = l;
-        mesh = record { corners = subst (λ v. trianglesFit triangles v ≡ true) (sym third) (ok .corners-fit); near = ok .coordinates-fit };
+        mesh = record { corners = subst (λ v. trianglesFit triangles v ≡ true) (sym third) (ok .mesh .corners-fit); near = ok .mesh .coordinates-fit };
         corners = fit;
         numbered = omega (arith, below _ (first k l), ap length e, long points triangles marks found shells room enough (length found) k);
         room =
             subst (TriangleFits (sixfold points (triangleAt triangles k)))
             (sym (ap (λ ys. getD ys n none) e ∙ at points triangles marks found shells room enough (length found) k n (below _ (first k l))))
-            (triangle-fits points triangles marks (ok .coordinates-fit) _ (keepTo k has) k (omega (arith, length-keep k has, count-most k has, ok .few-triangles)));
+            (triangle-fits points triangles marks (ok .mesh .coordinates-fit) _ (keepTo k has) k (omega (arith, length-keep k has, count-most k has, ok .mesh .triangles-few)));
       }
 
   pub fill-fits : FillFits points triangles marks found shells room
@@ -190,7 +191,7 @@ module _ (points triangles marks found : List ℕ) (shells : ℕ) (room : List S
       let byPoint = hasPoint points triangles marks found shells room enough n in
       let byTriangle = hasTriangle points triangles marks found shells room enough n in
       ap (λ v. recordFrom points triangles marks (keepTo v byPoint) (keepTo (triangleCount triangles) byTriangle)) (N .long)
-      ∙ ap (recordFrom points triangles marks (keepTo (length marks) byPoint)) (keep-cong (triangleCount triangles) byTriangle (λ k. namesUnder found n (triangleAt triangles k)) (λ k l. sym (one-number triangles found (length marks) shells (ok .corners-fit) N n k l)))
+      ∙ ap (recordFrom points triangles marks (keepTo (length marks) byPoint)) (keep-cong (triangleCount triangles) byTriangle (λ k. namesUnder found n (triangleAt triangles k)) (λ k l. sym (one-number triangles found (length marks) shells (ok .mesh .corners-fit) N n k l)))
 
   pub made : filled points triangles marks found shells room ≡ laid (listTo shells (recordOf points triangles marks found)) room
   made =

@@ -8,7 +8,7 @@ use Rattle.mesh.specs.Mesh.{triangleCount, triangleAt, trianglesOf}
 use Rattle.mesh.specs.Check.{trianglesFit}
 use Rattle.shells.specs.Numbering.{numberOf, Numbering}
 use Rattle.shells.specs.Record.{namesUnder}
-use Rattle.shells.proofs.Sound.{corners}
+use Rattle.mesh.proofs.Passed.{corners}
 use Rattle.shells.proofs.Leading.{led-first, led-second, led-on}
 
 -- three tests that agree

@@ -13,7 +13,7 @@ use Rattle.mesh.specs.Mesh.{triangleCount, triangleAt, trianglesOf}
 use Rattle.mesh.specs.Check.{trianglesFit}
 use Rattle.shells.specs.Numbering.{numberOf, Numbering}
 use Rattle.shells.specs.Record.{pointsUnder, namesUnder, trianglesUnder, recordFrom, recordOf}
-use Rattle.shells.proofs.Sound.{corners}
+use Rattle.mesh.proofs.Passed.{corners}
 use Rattle.shells.proofs.OneNumber.{one-number}
 
 module _ (points triangles marks found : List ℕ) (shells : ℕ) (N : Numbering (trianglesOf triangles) (length marks) found shells) where

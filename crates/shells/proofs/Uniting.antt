@@ -13,7 +13,7 @@ use Rattle.mesh.specs.Mesh.{triangleCount, triangleAt, trianglesOf}
 use Rattle.mesh.specs.Check.{trianglesFit}
 use Rattle.shells.specs.Led.{Led, here}
 use Rattle.shells.specs.Sets.{parent, Falling, root, Sound, Joined, Together, United}
-use Rattle.shells.proofs.Sound.{Corners, corners}
+use Rattle.mesh.proofs.Passed.{Corners, corners}
 use Rattle.shells.proofs.Roots.{root-fixed}
 use Rattle.shells.proofs.Leading.{led-first, led-second}
 

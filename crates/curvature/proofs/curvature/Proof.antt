@@ -6,7 +6,8 @@ use lib.ListN.{length}
 use borrow.Author.Needs.{needs}
 use Rattle.curvature.specs.Sums.{start}
 use Rattle.curvature.specs.Rooms.{sumAt}
-use Rattle.curvature.proofs.Granted.{passed, refused-mesh, refused-areas, refused-vectors, granted-rooms, sums-start, area-is, vector-is}
+use Rattle.mesh.proofs.Passed.{passed}
+use Rattle.curvature.proofs.Granted.{refused-mesh, refused-areas, refused-vectors, granted-rooms, sums-start, area-is, vector-is}
 use Rattle.curvature.proofs.curvature.Statement.{statement}
 use Rattle.curvature.proofs.curvature.Tie as tie
 
@@ -47,11 +48,11 @@ add-triangles-requires c κs =
     let vectors-fit = c .before .before .before .before .before .before .before .before .before .before .if3 .left in
     let v = one ∙ areas-fit in (
       record {
-        points-fit = omega (arith, ok .points-fit, v);
+        points-fit = omega (arith, ok .threes, v);
         vectors-fit = omega (arith, two, vectors-fit, v);
         coordinates-fit = ok .coordinates-fit;
       },
-      rw v (ok .triangles-fit),
+      rw v (ok .corners-fit),
     )
 
 finish-requires : tie.Need-finish-requires

@@ -20,7 +20,7 @@ unite-requires c κs =
     let g = r .before .before .before .before .before .before .args in
     let none = c .before .if1 .left in
     let ok = passes (g .points .now) (g .triangles .now) (g .marks .now) (g .numbers .now) (g .work .now) (g .records) (r .refused .result) (r .refused .ensures) none in
-    (omega (arith, ok .work-long, ok .few-points), (omega (arith, ok .work-long), ok .corners-fit))
+    (omega (arith, ok .work-long, ok .mesh .few), (omega (arith, ok .work-long), ok .mesh .corners-fit))
 
 count-requires : tie.Need-count-requires
 count-requires c κs =
@@ -48,7 +48,7 @@ number-requires c κs =
     let g = r .before .before .before .before .before .before .args in
     let none = c .before .before .before .before .before .before .before .before .before .if1 .left in
     let ok = passes (g .points .now) (g .triangles .now) (g .marks .now) (g .numbers .now) (g .work .now) (g .records) (r .refused .result) (r .refused .ensures) none in
-    (c .before .before .before .before .before .before .before .unite .ensures .falls, (omega (arith, c .before .before .before .before .before .before .before .unite .ensures .long, ok .work-long, ok .numbers-long), omega (arith, ok .numbers-long, ok .few-points)))
+    (c .before .before .before .before .before .before .before .unite .ensures .falls, (omega (arith, c .before .before .before .before .before .before .before .unite .ensures .long, ok .work-long, ok .numbers-long), omega (arith, ok .numbers-long, ok .mesh .few)))
 
 clear-requires : tie.Need-clear-requires
 clear-requires c κs = search needs

@@ -2,7 +2,7 @@
 use mathlib.Core.Path.{ap, _∙_}
 use native.Mathlib.Omega.{arith}
 use lib.ListN.{length, getD}
-use Rattle.shells.proofs.Sound.{corners}
+use Rattle.mesh.proofs.Passed.{corners}
 use borrow.Author.Needs.{needs}
 use Rattle.shells.proofs.number_of.Statement.{statement}
 use Rattle.shells.proofs.number_of.Tie as tie

@@ -14,7 +14,7 @@ use Rattle.mesh.specs.declared.Place.{Place}
 use Rattle.shells.specs.Record.{diagonals, determinant, sixfold}
 use Rattle.mesh.specs.Place.{placeOf, Near}
 use Rattle.mesh.proofs.Places.{near-place}
-use Rattle.shells.proofs.Sound.{corners}
+use Rattle.mesh.proofs.Passed.{corners}
 use Rattle.shells.proofs.Sizes.{diagonals-small}
 use borrow.Author.Needs.{needs}
 use Rattle.shells.proofs.volume.sixfold.Statement.{statement}
