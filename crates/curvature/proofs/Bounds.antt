@@ -22,7 +22,7 @@ use Rattle.curvature.specs.declared.sides.Side.{Side}
 use Rattle.curvature.specs.Sides.{between, dot, cross, squared, dotAt, oppositeAt, crossAt}
 use Rattle.curvature.specs.Sizes.{Within, SmallDots, mostProducts}
 use Rattle.curvature.specs.Corners.{dotsOf}
-use Rattle.curvature.proofs.Signed.{held, read-back, asked, learnt, size-times, size-plus, size-less, size-between}
+use Rattle.laws.proofs.Sizes.{held, read-back, asked, learnt, size-times, size-plus, size-less, size-between}
 
 pub small-sizes : (a b : ℤ) → natAbs a ≤ mostCoordinate → natAbs b ≤ mostCoordinate → natAbs a * natAbs b ≤ mostProducts 1
 small-sizes a b la lb = mul-le-mul {n₁ = natAbs a} {m₁ = natAbs b} {n₂ = mostCoordinate} {m₂ = mostCoordinate} la lb

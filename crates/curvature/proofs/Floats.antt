@@ -4,13 +4,14 @@ use mathlib.Core.Path.{_≡_, refl, _∙_}
 use Prim.Native.Nat.{_^_, _≤_}
 use native.Mathlib.Omega.{arith}
 use lib.Count.{trailingZeros}
-use lib.Ieee.{Float, binary64, ofBits, ofFields, odd, ofInt, round, units, size, span, climb}
-use lib.IntN.{ℤ, pos, natAbs}
+use lib.Dec.{T, le→leb, lt→ltb}
+use lib.Ieee.{Float, binary64, inFloat, ofBits, ofFields, odd, ofInt, round, units, size, span, climb}
+use lib.IntN.{ℤ, pos, negsuc, natAbs}
 use mir.Syntax.{w64}
 use mir.Val.{toZ, ofZ}
 use Rattle.laws.specs.Signed.{negative}
 use Rattle.curvature.specs.Vectors.{plusZero, whole}
-use Rattle.curvature.proofs.Signed.{held, read-back}
+use Rattle.laws.proofs.Sizes.{held, read-back}
 
 -- the literals 0.0, 4.0 and 8.0
 pub zero-is : ofBits binary64 0 ≡ plusZero
@@ -24,6 +25,12 @@ four-is = refl
 pub eight-is : ofBits binary64 0x4020_0000_0000_0000 ≡ whole (pos 8)
 unfolding ofBits ofFields odd ofInt round units size span climb trailingZeros
 eight-is = refl
+
+-- up to 2^53 every whole number is a binary64
+pub exact : (a : ℤ) → natAbs a ≤ 2 ^ 53 → T (inFloat binary64 a)
+unfolding inFloat
+exact (pos n) h = le→leb n (2 ^ 53) h
+exact (negsuc n) h = lt→ltb n (2 ^ 53) (omega arith)
 
 -- a word made a float
 module _ (a : ℤ) (h : natAbs a ≤ 2 ^ 53) where

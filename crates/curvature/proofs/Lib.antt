@@ -1,6 +1,5 @@
 -- Reading order: signed whole numbers as words, and how large those of a triangle are; whole numbers as binary64 numbers; the ways to the shares; what the rooms hold after a store, after
 -- a triangle and at the end; what is read back; one outcome; that what was stored is read back as it was worked out; and what a caller in C is told.
-pub mod Signed
 pub mod Bounds
 pub mod Floats
 pub mod Ways

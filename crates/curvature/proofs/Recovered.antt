@@ -21,6 +21,7 @@ use Rattle.curvature.specs.Sums.{Sum}
 use Rattle.curvature.specs.Answers.{answerOf, answer, storedVector, answerAt}
 use Rattle.curvature.specs.Outcome.{Outcome, sumOf, answerFor, granted, outcome}
 use Rattle.curvature.specs.Promise.{Curves, ReadsBack}
+use Rattle.mesh.proofs.Places.{within-any}
 use Rattle.mesh.proofs.Passed.{passed}
 use Rattle.curvature.proofs.Readings.{answered}
 use Rattle.curvature.proofs.OneOutcome.{one-reading}
@@ -70,8 +71,7 @@ module _ (points triangles marks : List ℕ) (pass : meshNumber points triangles
       (stored-tells (getD marks point 0) (sumOf points triangles point))
 
   mark-small : getD marks point 0 ≤ 1
-  unfolding allWithin
-  mark-small = leb-true _ _ (all-at (length marks) (λ i. leb (getD marks i 0) 1) (passed points triangles marks pass .marks-fit) point below)
+  mark-small = within-any 1 marks point (passed points triangles marks pass .marks-fit)
 
   rooms-read : (r : Reading) → ReadsBack marks areas vectors point r → r ≡ Answered (answerFor points triangles marks point)
   rooms-read r h =

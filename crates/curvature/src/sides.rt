@@ -6,7 +6,7 @@ ghost use Rattle.grid.specs.Limits.{mostCoordinate};
 ghost use Rattle.mesh.specs.Place.{Near};
 ghost use Rattle.curvature.specs.Sides.{between, dot as dotOf, cross as crossOf, squared as squaredOf, dotAt as dotIs, crossAt as crossIs};
 ghost use Rattle.curvature.specs.Sizes.{Within, mostProducts};
-use crate::whole;
+use laws::signed;
 use mesh::Place;
 
 // What leads from one place to another.
@@ -21,9 +21,9 @@ pub(crate) fn minus(p: Place, q: Place) -> Side
     ensures { λ r. ⌜ r ≡ between p q ⌝ }
 {
     Side {
-        x: whole::apart(p.x, q.x),
-        y: whole::apart(p.y, q.y),
-        z: whole::apart(p.z, q.z),
+        x: signed::apart(p.x, q.x),
+        y: signed::apart(p.y, q.y),
+        z: signed::apart(p.z, q.z),
     }
 }
 
@@ -31,10 +31,10 @@ pub(crate) fn dot(u: Side, v: Side) -> i64
     requires { ⌜ Within mostCoordinate u × Within mostCoordinate v ⌝ }
     ensures { λ r. ⌜ r ≡ dotOf u v ⌝ }
 {
-    let x = whole::times(u.x, v.x);
-    let y = whole::times(u.y, v.y);
-    let z = whole::times(u.z, v.z);
-    whole::plus(whole::plus(x, y), z)
+    let x = signed::product(u.x, v.x);
+    let y = signed::product(u.y, v.y);
+    let z = signed::product(u.z, v.z);
+    signed::sum(signed::sum(x, y), z)
 }
 
 // a·d - b·c
@@ -42,7 +42,7 @@ fn minor(a: i64, b: i64, c: i64, d: i64) -> i64
     requires { ⌜ (natAbs a ≤ mostCoordinate) × (natAbs b ≤ mostCoordinate) × (natAbs c ≤ mostCoordinate) × (natAbs d ≤ mostCoordinate) ⌝ }
     ensures { λ r. ⌜ r ≡ a *ℤ d -ℤ b *ℤ c ⌝ }
 {
-    whole::minus(whole::times(a, d), whole::times(b, c))
+    signed::difference(signed::product(a, d), signed::product(b, c))
 }
 
 pub(crate) fn cross(u: Side, v: Side) -> Side
@@ -60,9 +60,9 @@ pub(crate) fn squared(u: Side) -> u64
     requires { ⌜ Within (mostProducts 2) u ⌝ }
     ensures { λ r. ⌜ r ≡ squaredOf u ⌝ }
 {
-    let x = whole::square(u.x);
-    let y = whole::square(u.y);
-    let z = whole::square(u.z);
+    let x = signed::square(u.x);
+    let y = signed::square(u.y);
+    let z = signed::square(u.z);
     x + y + z
 }
 

@@ -15,6 +15,7 @@ pub mod Words
 pub mod Scan
 pub mod Nearest
 pub mod Differences
+pub mod Sizes
 pub mod Rooms
 pub mod Writes
 pub mod Values

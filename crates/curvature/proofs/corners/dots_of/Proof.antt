@@ -2,7 +2,7 @@
 use mathlib.Core.Path.{_∙_}
 use borrow.Author.Needs.{needs}
 use Rattle.curvature.specs.Corners.{dotsOf}
-use Rattle.curvature.proofs.Signed.{read-back}
+use Rattle.laws.proofs.Sizes.{read-back}
 use Rattle.curvature.proofs.corners.dots_of.Statement.{statement}
 use Rattle.curvature.proofs.corners.dots_of.Tie as tie
 

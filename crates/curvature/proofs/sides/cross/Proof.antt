@@ -2,7 +2,7 @@
 use mathlib.Core.Path.{_∙_}
 use borrow.Author.Needs.{needs}
 use Rattle.curvature.specs.Sides.{cross}
-use Rattle.curvature.proofs.Signed.{read-back}
+use Rattle.laws.proofs.Sizes.{read-back}
 use Rattle.curvature.proofs.Bounds.{minor-learnt}
 use Rattle.curvature.proofs.sides.cross.Statement.{statement}
 use Rattle.curvature.proofs.sides.cross.Tie as tie

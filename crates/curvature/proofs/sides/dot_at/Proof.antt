@@ -2,7 +2,7 @@
 use mathlib.Core.Path.{_∙_}
 use borrow.Author.Needs.{needs}
 use Rattle.curvature.specs.Sides.{dotAt}
-use Rattle.curvature.proofs.Signed.{read-back}
+use Rattle.laws.proofs.Sizes.{read-back}
 use Rattle.curvature.proofs.Bounds.{between-within}
 use Rattle.curvature.proofs.sides.dot_at.Statement.{statement}
 use Rattle.curvature.proofs.sides.dot_at.Tie as tie

@@ -2,7 +2,7 @@
 use mathlib.Core.Path.{_∙_}
 use borrow.Author.Needs.{needs}
 use Rattle.curvature.specs.Sides.{between}
-use Rattle.curvature.proofs.Signed.{read-back}
+use Rattle.laws.proofs.Sizes.{read-back}
 use Rattle.curvature.proofs.sides.minus.Statement.{statement}
 use Rattle.curvature.proofs.sides.minus.Tie as tie
 

@@ -7,7 +7,7 @@ use mir.Syntax.{w64}
 use mir.Val.{toZ, ofZ}
 use Rattle.curvature.specs.Sides.{squared}
 use Rattle.curvature.specs.Sizes.{mostProducts}
-use Rattle.curvature.proofs.Signed.{held, read-back}
+use Rattle.laws.proofs.Sizes.{held, read-back}
 use Rattle.curvature.proofs.Bounds.{square-small}
 use Rattle.curvature.proofs.sides.squared.Statement.{statement}
 use Rattle.curvature.proofs.sides.squared.Tie as tie

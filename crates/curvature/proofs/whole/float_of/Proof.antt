@@ -1,6 +1,7 @@
 -- `curvature::whole::float_of` meets its contract. Assumes nothing.
 use borrow.Author.Needs.{needs}
-use Rattle.curvature.proofs.Signed.{exact, read-back}
+use Rattle.laws.proofs.Sizes.{read-back}
+use Rattle.curvature.proofs.Floats.{exact}
 use Rattle.curvature.proofs.whole.float_of.Statement.{statement}
 use Rattle.curvature.proofs.whole.float_of.Tie as tie
 

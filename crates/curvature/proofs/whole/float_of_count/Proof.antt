@@ -1,7 +1,7 @@
 -- `curvature::whole::float_of_count` meets its contract. Assumes nothing.
 use lib.IntN.{pos}
 use borrow.Author.Needs.{needs}
-use Rattle.curvature.proofs.Signed.{exact}
+use Rattle.curvature.proofs.Floats.{exact}
 use Rattle.curvature.proofs.whole.float_of_count.Statement.{statement}
 use Rattle.curvature.proofs.whole.float_of_count.Tie as tie
 

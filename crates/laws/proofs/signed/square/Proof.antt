@@ -1,10 +1,10 @@
--- `curvature::whole::square` meets its contract. Assumes nothing.
+-- `laws::signed::square` meets its contract. Assumes nothing.
 use mathlib.Core.Path.{_∙_}
 use native.Mathlib.Omega.{arith}
 use lib.IntN.{_*ℤ_}
-use Rattle.curvature.proofs.Signed.{size-times, square-is, result-held, result-read}
-use Rattle.curvature.proofs.whole.square.Statement.{statement}
-use Rattle.curvature.proofs.whole.square.Tie as tie
+use Rattle.laws.proofs.Sizes.{size-times, square-is, result-held, result-read}
+use Rattle.laws.proofs.signed.square.Statement.{statement}
+use Rattle.laws.proofs.signed.square.Tie as tie
 
 mul-result : tie.Need-mul-result
 mul-result c =

@@ -3,8 +3,7 @@ use mathlib.Core.Bool.{Bool, true, false, cond}
 use mathlib.Core.Path.{_≡_, refl, _∙_}
 use Prim.Native.Nat.{ℕ, zero, suc, _+_, _-_, _*_, _^_, _≤_, _<_}
 use native.Mathlib.Omega.{arith}
-use lib.Dec.{T, ltb, le→leb, lt→ltb}
-use lib.Ieee.{binary64, inFloat}
+use lib.Dec.{ltb}
 use lib.IntN.{ℤ, pos, negsuc, negℤ, natAbs, subℕ, _+ℤ_, _-ℤ_, _*ℤ_}
 use lib.Signed.{mag}
 use mir.Syntax.{w64}
@@ -56,10 +55,9 @@ held (negsuc n) h = omega arith
 pub read-back : (a : ℤ) → mag a < 2 ^ 63 → toZ w64 (ofZ w64 a) ≡ a
 read-back a h = toZ-ofZ w64 a (record { sfits = h })
 
-pub exact : (a : ℤ) → natAbs a ≤ 2 ^ 53 → T (inFloat binary64 a)
-unfolding inFloat
-exact (pos n) h = le→leb n (2 ^ 53) h
-exact (negsuc n) h = lt→ltb n (2 ^ 53) (omega arith)
+-- so a sum of sizes that it holds
+pub sum-held : (a b : ℤ) → natAbs a + natAbs b < 2 ^ 63 → SFits w64 (a +ℤ b)
+sum-held a b h = record { sfits = held (a +ℤ b) (omega (arith, size-plus a b)) }
 
 -- two words that a function is handed: what is asked of them, and what is learnt of an operation's result
 module _ (a b : ℤ) (ha : mag a < 2 ^ 63) (hb : mag b < 2 ^ 63) where

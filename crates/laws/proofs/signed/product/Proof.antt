@@ -1,9 +1,9 @@
--- `curvature::whole::times` meets its contract. Assumes nothing.
+-- `laws::signed::product` meets its contract. Assumes nothing.
 use native.Mathlib.Omega.{arith}
 use lib.IntN.{_*ℤ_}
-use Rattle.curvature.proofs.Signed.{size-times, result-held, result-read}
-use Rattle.curvature.proofs.whole.times.Statement.{statement}
-use Rattle.curvature.proofs.whole.times.Tie as tie
+use Rattle.laws.proofs.Sizes.{size-times, result-held, result-read}
+use Rattle.laws.proofs.signed.product.Statement.{statement}
+use Rattle.laws.proofs.signed.product.Tie as tie
 
 mul-result : tie.Need-mul-result
 mul-result c =
@@ -17,5 +17,5 @@ returns c =
     let b = c .args .b in
     result-read a b (c .fits .a .sfits) (c .fits .b .sfits) _*ℤ_ (omega (arith, size-times a b, c .pre))
 
-pub times-spec : {M : Type 1} → statement M
-times-spec = tie.close (tie.spec mul-result returns)
+pub product-spec : {M : Type 1} → statement M
+product-spec = tie.close (tie.spec mul-result returns)

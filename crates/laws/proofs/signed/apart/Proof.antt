@@ -1,11 +1,11 @@
--- `curvature::whole::apart` meets its contract. Assumes nothing.
+-- `laws::signed::apart` meets its contract. Assumes nothing.
 use Prim.Native.Nat.{_^_}
 use native.Mathlib.Omega.{arith}
 use lib.IntN.{pos, _-ℤ_}
 use borrow.Author.Needs.{needs}
-use Rattle.curvature.proofs.Signed.{size-between, held, result-held, result-read}
-use Rattle.curvature.proofs.whole.apart.Statement.{statement}
-use Rattle.curvature.proofs.whole.apart.Tie as tie
+use Rattle.laws.proofs.Sizes.{size-between, held, result-held, result-read}
+use Rattle.laws.proofs.signed.apart.Statement.{statement}
+use Rattle.laws.proofs.signed.apart.Tie as tie
 
 cast-result : tie.Need-cast-result
 cast-result c = search needs

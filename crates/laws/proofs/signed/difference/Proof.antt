@@ -1,9 +1,9 @@
--- `curvature::whole::minus` meets its contract. Assumes nothing.
+-- `laws::signed::difference` meets its contract. Assumes nothing.
 use native.Mathlib.Omega.{arith}
 use lib.IntN.{_-ℤ_}
-use Rattle.curvature.proofs.Signed.{size-less, result-held, result-read}
-use Rattle.curvature.proofs.whole.minus.Statement.{statement}
-use Rattle.curvature.proofs.whole.minus.Tie as tie
+use Rattle.laws.proofs.Sizes.{size-less, result-held, result-read}
+use Rattle.laws.proofs.signed.difference.Statement.{statement}
+use Rattle.laws.proofs.signed.difference.Tie as tie
 
 sub-result : tie.Need-sub-result
 sub-result c =
@@ -17,5 +17,5 @@ returns c =
     let b = c .args .b in
     result-read a b (c .fits .a .sfits) (c .fits .b .sfits) _-ℤ_ (omega (arith, size-less a b, c .pre))
 
-pub minus-spec : {M : Type 1} → statement M
-minus-spec = tie.close (tie.spec sub-result returns)
+pub difference-spec : {M : Type 1} → statement M
+difference-spec = tie.close (tie.spec sub-result returns)
