@@ -6,13 +6,13 @@ use Prim.Native.Nat.{ℕ, zero, suc, _+_, _*_, _<_, _≤_, min}
 use native.Mathlib.Nat.{mul-one}
 use native.Mathlib.Omega.{arith}
 use lib.Dec.{eqb, ltb}
-use lib.ListN.{length, getD, take, length-map}
-use lib.Seq.{take-at, ext-getD, getD-append-add}
+use lib.ListN.{length, getD, length-map}
+use lib.Seq.{ext-getD, getD-append-add}
 use borrow.Author.Tests.{ltb-false}
 use Rattle.laws.specs.Range.{joinTo}
-use Rattle.laws.specs.Room.{laid}
 use Rattle.laws.specs.Mesh.{Triangle, triangle, cornersOf, flat}
 use Rattle.laws.proofs.Ranges.{length-flat}
+use Rattle.laws.proofs.Rooms.{laid-read}
 use Rattle.laws.proofs.Rows.{length-rows, entry-at}
 use Rattle.grid.specs.Limits.{mostPoints, mostTriangles}
 use Rattle.grid.specs.Grid.{Size, axes, sampleCount, edgeCount, mark}
@@ -65,11 +65,6 @@ triangles-of-flat ts = ext-getD (triangle 0 0 0) (joinTo (triangleCount (flat ts
         ∙ entry-at 1 one (λ i. refl) (triangleCount (flat ts)) i 0 (triangle 0 0 0) (omega (arith, many)) (omega arith)
         ∙ triangle-at-flat ts i (triangle 0 0 0) (omega (arith, many, count))
 
--- a list laid over the front of a room, read again
-front : {A : Type 0} (xs room : List A) (n : ℕ) → length xs ≡ n → take n (laid xs room) ≡ xs
-unfolding laid
-front xs room n e = take-at xs _ n e
-
 -- no refusal has the number 0
 module _ (r : Rooms) (g : Outcome) where
   only-granted : (sides samples work points triangles : Bool)
@@ -116,11 +111,11 @@ module _ (nx ny nz grey : ℕ) (samples : List ℕ) (before : Rooms) where
         sides-fit = s;
         points-fit = p;
         triangles-fit = t;
-        edges-are = front points (before .edges) (length points) refl;
+        edges-are = laid-read points (before .edges) (length points) refl;
         places-are =
-            front (flatMap (place axes n grey samples) points) (before .points) (3 * length points) (length-flat 3 (place axes n grey samples) place-three points);
-        marks-are = front (map (mark axes n) points) (before .marks) (length points) (length-map points (mark axes n));
-        triangles-are = front (flat triangles) (before .triangles) (3 * length triangles) (length-flat-triangles triangles);
+            laid-read (flatMap (place axes n grey samples) points) (before .points) (3 * length points) (length-flat 3 (place axes n grey samples) place-three points);
+        marks-are = laid-read (map (mark axes n) points) (before .marks) (length points) (length-map points (mark axes n));
+        triangles-are = laid-read (flat triangles) (before .triangles) (3 * length triangles) (length-flat-triangles triangles);
       }
 
   pub left-granted : (after : Outcome) → Extracts nx ny nz grey samples before after → after .number ≡ 0 → Granted after

@@ -5,8 +5,8 @@ use Prim.Native.Nat.{ℕ, suc, _+_, _<_, _≤_}
 use native.Mathlib.Decide.{decLt}
 use native.Mathlib.Numerals.{add-one}
 use native.Mathlib.Omega.{arith}
-use lib.ListN.{length, getD, drop, set, replicate, length-append, length-drop, getD-replicate, length-replicate, List·getD-append, List·getD-eq-default}
-use lib.Seq.{drop-cons, set-append-seam, getD-append-add, getD-drop}
+use lib.ListN.{length, getD, take, drop, set, replicate, length-append, length-drop, getD-replicate, length-replicate, List·getD-append, List·getD-eq-default}
+use lib.Seq.{take-at, drop-cons, set-append-seam, getD-append-add, getD-drop}
 use Rattle.laws.specs.Room.{laid}
 
 module _ {A : Type 0} (xs room : List A) where
@@ -18,6 +18,10 @@ module _ {A : Type 0} (xs room : List A) where
   pub laid-front : (i : ℕ) (d : A) → i < length xs → getD (laid xs room) i d ≡ getD xs i d
   unfolding laid
   laid-front i d h = List·getD-append xs (drop (length xs) room) d i h
+
+  pub laid-read : (n : ℕ) → length xs ≡ n → take n (laid xs room) ≡ xs
+  unfolding laid
+  laid-read n e = take-at xs (drop (length xs) room) n e
 
   -- what stayed
   pub laid-rest : (i : ℕ) (d : A) → getD (laid xs room) (length xs + i) d ≡ getD room (length xs + i) d

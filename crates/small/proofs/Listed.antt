@@ -8,11 +8,10 @@ use native.Mathlib.Omega.{arith}
 use lib.Dec.{eqb, leb}
 use lib.IntN.{ℤ}
 use lib.ListN.{length, take, replicate}
-use lib.Seq.{take-at}
 use borrow.Author.Tests.{eq-eqb, le-leb}
 use Rattle.laws.specs.Range.{joinTo}
-use Rattle.laws.specs.Room.{laid}
 use Rattle.laws.specs.Values.{listTo}
+use Rattle.laws.proofs.Rooms.{laid-read}
 use Rattle.laws.proofs.Rows.{length-rows}
 use Rattle.laws.proofs.Values.{length-list}
 use Rattle.mesh.specs.Mesh.{trianglesOf}
@@ -33,13 +32,13 @@ use Rattle.listing.specs.Listing.{mostListed, numbersOf, numbersHanded, volumes
 
 -- what was handed on, read again
 numbers-front : (count : ℕ) (shell : ℕ → Shell) (room : List ℕ) → take (4 * count) (numbersHanded count shell room) ≡ joinTo count (λ n. numbersOf (shell n))
-unfolding numbersHanded laid
+unfolding numbersHanded
 numbers-front count shell room =
-    take-at (joinTo count (λ n. numbersOf (shell n))) _ (4 * count) (length-rows 4 (λ n. numbersOf (shell n)) (λ n. refl) count ∙ mul-comm count 4)
+    laid-read (joinTo count (λ n. numbersOf (shell n))) room (4 * count) (length-rows 4 (λ n. numbersOf (shell n)) (λ n. refl) count ∙ mul-comm count 4)
 
 volumes-front : (count : ℕ) (shell : ℕ → Shell) (room : List ℤ) → take count (volumesHanded count shell room) ≡ listTo count (λ n. shell n .volume)
-unfolding volumesHanded laid
-volumes-front count shell room = take-at (listTo count (λ n. shell n .volume)) _ count (length-list count (λ n. shell n .volume))
+unfolding volumesHanded
+volumes-front count shell room = laid-read (listTo count (λ n. shell n .volume)) room count (length-list count (λ n. shell n .volume))
 
 -- the shells, and the records of so many of them
 pub record Told (points triangles marks : List ℕ) (o : Outcome) (records : List ℕ) (volumes : List ℤ) : Type 0 where

@@ -4,9 +4,8 @@ use mathlib.Core.List.{List}
 use Prim.Native.Nat.{ℕ, _≤_}
 use native.Mathlib.Omega.{arith}
 use lib.ListN.{length, take, replicate, length-replicate}
-use lib.Seq.{take-at}
 use Rattle.laws.specs.Range.{joinTo}
-use Rattle.laws.specs.Room.{laid}
+use Rattle.laws.proofs.Rooms.{laid-read}
 use Rattle.laws.specs.Values.{listTo}
 use Rattle.grid.specs.Limits.{mostSmall}
 use Rattle.mesh.specs.Mesh.{trianglesOf}
@@ -41,8 +40,8 @@ read input h samples small e =
     rw e (grid-read h samples room small (omega (arith, passed h (small .checked) .1, length-replicate {A = ℕ} mostSmall 0)))
 
 front : (h : Head) (samples : List ℕ) → Small h samples → take (samplesOf h) (granted h samples room .samples) ≡ samples
-unfolding granted laid
-front h samples small = take-at samples _ (samplesOf h) (small .whole)
+unfolding granted
+front h samples small = laid-read samples room (samplesOf h) (small .whole)
 
 -- and it is the only one
 module _ (input : List ℕ) (h h′ : Head) (s s′ : List ℕ) (small : Small h s) (small′ : Small h′ s′) (e : input ≡ gridText h s) (e′ : input ≡ gridText h′ s′) where

@@ -4,8 +4,7 @@ use mathlib.Core.List.{List}
 use Prim.Native.Nat.{ℕ, _*_, _≤_}
 use native.Mathlib.Omega.{arith}
 use lib.ListN.{length, take, replicate}
-use lib.Seq.{take-at}
-use Rattle.laws.specs.Room.{laid}
+use Rattle.laws.proofs.Rooms.{laid-read}
 use Rattle.grid.specs.Limits.{mostSmall}
 use Rattle.text.specs.Writing.{refusalText}
 use Rattle.text.specs.Grid.{samplesOf, headNumber, granted, readGrid}
@@ -33,10 +32,10 @@ module _ (input : List ℕ) (p : Parsed) (exit : List ℕ) (e : left p exit ≡ 
     head-is = ap (λ o. headIn (o .answer)) (e ∙ taken .answer)
 
     samples-are : take (samplesOf (headIn p)) exit ≡ taken .samples
-    unfolding granted laid
+    unfolding granted
     samples-are =
         ap₂ (λ h xs. take (samplesOf h) xs) head-is (ap (λ o. o .samples) (e ∙ taken .answer))
-        ∙ take-at (taken .samples) _ (samplesOf (taken .head)) (taken .small .whole)
+        ∙ laid-read (taken .samples) (replicate mostSmall 0) (samplesOf (taken .head)) (taken .small .whole)
 
     checked : headNumber (headIn p) ≡ 0
     checked = ap headNumber head-is ∙ taken .small .checked
