@@ -12,3 +12,6 @@ pub mod Granted
 pub mod OneOutcome
 pub mod Recovered
 pub mod Telling
+pub mod AtMost
+pub mod AtLeast
+pub mod Quotient
