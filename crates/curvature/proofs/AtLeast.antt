@@ -1,21 +1,20 @@
 -- Binary64 numbers that are finite, not negative, and at least 2^-l, or else 0; and what each operation makes of them. Where such numbers divide, nothing becomes infinite.
-use mathlib.Core.Bool.{Bool, true, false, cond, true≢false}
+use mathlib.Core.Bool.{true, false, true≢false}
 use mathlib.Core.Logic.{_⊎_, inl, inr}
 use mathlib.Core.Path.{_≡_, refl, sym, ap, subst, _∙_}
-use Prim.Native.Nat.{ℕ, zero, suc, _+_, _-_, _*_, _^_, _≤_, _<_}
-use native.Mathlib.Nat.{le-trans, le-of-eq, mul-one, one-mul, zero-mul, mul-zero, mul-comm, mul-assoc, mul-left-comm, mul-right-comm, add-mul, mul-le-mul, mul-le-mul-left, mul-le-mul-right, mul-mul-mul-comm, mul-pos, eq-zero-or-pos}
+use Prim.Native.Nat.{ℕ, _+_, _-_, _*_, _^_, _≤_, _<_}
+use native.Mathlib.Nat.{le-trans, le-of-eq, one-mul, zero-mul, mul-zero, mul-comm, mul-assoc, mul-right-comm, add-mul, mul-le-mul, mul-le-mul-left, mul-le-mul-right, mul-mul-mul-comm, mul-pos, eq-zero-or-pos}
 use native.Mathlib.Omega.{arith}
-use lib.IntN.{ℤ, pos}
-use lib.Dec.{T, eqb}
+use lib.IntN.{pos}
+use lib.Dec.{T}
 use lib.Pow.{pow-add, pow-mono, pow-pos, pow-lt}
-use lib.Ieee.{Float, nan, inf, fin, binary64, up, down, round, sum, add, mul, div, le, eq, ofInt}
-use lib.Ieee.Fits.{up-pos, down-pos}
+use lib.Ieee.{Float, nan, inf, fin, binary64, up, down, round, sum, add, mul, le, ofInt}
+use lib.Ieee.Fits.{down-pos}
 use lib.Ieee.Exact.{HasValue, round-exact}
-use lib.Ieee.Order.{round-mono, transfer}
+use lib.Ieee.Order.{round-mono}
 use lib.Ieee.Positive.{through}
-use borrow.Author.Tests.{ne-eqb}
 use Rattle.curvature.specs.Vectors.{whole}
-use Rattle.curvature.proofs.AtMost.{AtMost, HasSign, round-sign, ordered, round-at-most}
+use Rattle.curvature.proofs.AtMost.{AtMost, HasSign, round-sign, ordered}
 
 -- at least 2^-l
 abbrev pub AtLeast : ℕ → Float → Type 0
@@ -98,7 +97,7 @@ cross-more : (l u d e : ℕ) → d ≤ u * 2 ^ l → d * e ≤ u * e * 2 ^ l
 cross-more l u d e h = rw (mul-right-comm u (2 ^ l) e) at (mul-le-mul-right e h)
 
 grained-sum : (l u v d e : ℕ) → Grained l u d → Grained l v e → Grained l (u * e + v * d) (d * e)
-grained-sum l u v d e (inl h) (inl k) = inl (rw (h, k, zero-mul, zero-mul))
+grained-sum l u v d e (inl h) (inl k) = inl (rw (h, k, zero-mul e, zero-mul d))
 grained-sum l u v d e (inr h) k = inr (omega (arith, cross-more l u d e h, add-mul (u * e) (v * d) (2 ^ l)))
 grained-sum l u v d e (inl h) (inr k) = inr (omega (arith, cross-more l v e d k, add-mul (u * e) (v * d) (2 ^ l), mul-comm d e))
 

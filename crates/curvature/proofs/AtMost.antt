@@ -1,16 +1,15 @@
 -- Binary64 numbers that are finite and at most q·2^j in size, and what each operation makes of them. Such a bound is a binary64 number itself, so rounding does not pass it.
-use mathlib.Core.Bool.{Bool, true, false, not, _&&_, _||_, Bool·beq, cond, true≢false}
-use mathlib.Core.Path.{_≡_, refl, sym, ap, subst, _∙_}
-use Prim.Native.Nat.{ℕ, zero, suc, _+_, _-_, _*_, _/_, _%_, _^_, _≤_, _<_}
-use native.Mathlib.Nat.{le-trans, le-of-eq, mul-one, one-mul, mul-comm, mul-assoc, mul-left-comm, mul-right-comm, add-mul, mul-le-mul, mul-le-mul-right, mul-mul-mul-comm, mul-pos}
+use mathlib.Core.Bool.{Bool, true, false, _&&_, _||_, Bool·beq, cond, true≢false}
+use mathlib.Core.Path.{_≡_, refl, sym, subst}
+use Prim.Native.Nat.{ℕ, zero, suc, _+_, _-_, _*_, _^_, _≤_, _<_}
+use native.Mathlib.Nat.{le-trans, le-of-eq, mul-one, one-mul, mul-comm, mul-assoc, add-mul, mul-le-mul, mul-le-mul-right, mul-mul-mul-comm, mul-pos}
 use native.Mathlib.Omega.{arith}
 use lib.IntN.{ℤ, pos, negsuc, natAbs}
 use lib.Dec.{T, ltb, eqb, ltb→lt, eqb→eq}
 use lib.Pow.{pow-add, pow-mono, shl-lt}
-use lib.Ieee.{Float, nan, inf, fin, binary64, prec, emax, low, up, down, odd, units, round, sum, add, mul, div, le, ofInt}
+use lib.Ieee.{Float, nan, inf, fin, binary64, prec, emax, low, up, down, odd, units, round, sum, add, mul, le, ofInt}
 use lib.Ieee.Fits.{round-is, down-pos}
 use lib.Ieee.Exact.{HasValue, odd-sign, round-exact}
-use lib.Ieee.Back.{round-whole}
 use lib.Ieee.Order.{round-mono}
 use lib.Ieee.Positive.{through}
 use Rattle.curvature.specs.Vectors.{whole}
@@ -89,7 +88,7 @@ under q j (fin false m e) (fin true n d) s v h = absurd (true≢false (v .0))
 under q j (fin false m e) (fin false n d) s v h =
     rw (mul-one (m * up e)) at (through (m * up e) (n * up d) (q * 2 ^ j) (down e) (down d) 1 (down-pos d) (ordered m n e d h) (le-of-eq (v .1)))
 
--- a bound is a binary64 number
+-- a bound is a binary64 number, of 53 digits at most and far below 2^1024
 bound-value : (q j : ℕ) → q < 2 ^ 53 → j ≤ 900 → HasValue (round binary64 false (q * 2 ^ j) 1) false (q * 2 ^ j) 1
 bound-value q j hq hj =
     round-exact binary64 false (q * 2 ^ j) 1 q (j + 1074) (omega arith) hq
@@ -142,7 +141,7 @@ add-at-most q r j (fin s m e) (fin t n d) hq hj h k =
 
 cross-product : (u v d e i j : ℕ) → u ≤ 1 * 2 ^ i * d → v ≤ 1 * 2 ^ j * e → u * v ≤ 1 * 2 ^ (i + j) * (d * e)
 cross-product u v d e i j h k =
-    let powers : 1 * 2 ^ i * d * (1 * 2 ^ j * e) ≡ 1 * 2 ^ (i + j) * (d * e) = rw (one-mul, one-mul, one-mul, pow-add 2 i j) (mul-mul-mul-comm (2 ^ i) d (2 ^ j) e) in
+    let powers : 1 * 2 ^ i * d * (1 * 2 ^ j * e) ≡ 1 * 2 ^ (i + j) * (d * e) = rw (one-mul (2 ^ i), one-mul (2 ^ j), one-mul (2 ^ (i + j)), pow-add 2 i j) (mul-mul-mul-comm (2 ^ i) d (2 ^ j) e) in
     rw powers at (mul-le-mul {n₁ = u} {m₁ = v} {n₂ = 1 * 2 ^ i * d} {m₂ = 1 * 2 ^ j * e} h k)
 
 pub mul-at-most : (i j : ℕ) (x y : Float) → i + j ≤ 900 → AtMost 1 i x → AtMost 1 j y → AtMost 1 (i + j) (mul binary64 x y)
