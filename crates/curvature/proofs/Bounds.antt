@@ -1,20 +1,13 @@
 -- How large the whole numbers of a triangle are.
-use mathlib.Core.Bool.{true}
-use mathlib.Core.List.{List}
 use mathlib.Core.Path.{_≡_, _∙_}
 use Prim.Native.Nat.{ℕ, _+_, _*_, _^_, _≤_, _<_}
 use native.Mathlib.Nat.{mul-le-mul}
 use native.Mathlib.Omega.{arith}
-use lib.Dec.{leb}
 use lib.IntN.{ℤ, natAbs, _+ℤ_, _-ℤ_, _*ℤ_}
-use lib.ListN.{length, getD}
 use lib.Signed.{mag}
 use mir.Syntax.{w64}
 use mir.Val.{toZ, ofZ}
-use borrow.Author.Tests.{leb-true}
-use Rattle.laws.proofs.Tests.{all-at}
 use Rattle.grid.specs.Limits.{mostCoordinate}
-use Rattle.mesh.specs.Check.{allWithin}
 use Rattle.root.specs.Root.{windowTo}
 use Rattle.mesh.specs.declared.Place.{Place}
 use Rattle.mesh.specs.Place.{Near}

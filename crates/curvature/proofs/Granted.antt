@@ -1,20 +1,17 @@
 -- A granted call: the checks have passed, and the rooms hold what is defined.
-use mathlib.Core.Bool.{Bool, true, false, cond, not, and-false}
+use mathlib.Core.Bool.{and-false}
 use mathlib.Core.List.{List, [], _∷_}
 use mathlib.Core.Path.{_≡_, refl, sym, ap, ap₂, _∙_}
 use Prim.Native.Nat.{ℕ, zero, suc, _+_, _*_, _/_, _%_, _<_}
 use native.Mathlib.Omega.{arith}
-use lib.Dec.{eqb}
 use lib.Ieee.{Float, nan}
 use lib.ListN.{length, getD}
 use lib.Seq.{ext-getD}
-use borrow.Author.Tests.{eq-eqb, ne-eqb, eqb-true}
+use borrow.Author.Tests.{eq-eqb, ne-eqb}
 use Rattle.laws.specs.Range.{joinTo}
-use Rattle.laws.proofs.Tests.{both}
 use Rattle.laws.proofs.Rows.{length-rows, entry-at}
-use Rattle.grid.specs.Limits.{mostCoordinate}
 use Rattle.mesh.specs.Mesh.{triangleCount}
-use Rattle.mesh.specs.Check.{lengthsFit, trianglesFit, allWithin, meshNumber}
+use Rattle.mesh.specs.Check.{meshNumber}
 use Rattle.curvature.specs.declared.vectors.Vector.{Vector}
 use Rattle.curvature.specs.Vectors.{plusZero, numbersOf, vectorAt}
 use Rattle.curvature.specs.Sums.{start, sumAfter}

@@ -4,14 +4,13 @@ use mathlib.Core.List.{List, [], _∷_}
 use mathlib.Core.Path.{_≡_, refl, sym, ap, subst, _∙_}
 use Prim.Native.Nat.{ℕ, _+_, _*_, _≤_, _<_}
 use native.Mathlib.Omega.{arith}
-use lib.Dec.{eqb, leb}
+use lib.Dec.{eqb}
 use lib.Ieee.{Float, nan, eq}
 use lib.ListN.{length, getD}
-use borrow.Author.Tests.{leb-true, eqb-true, eqb-false}
+use borrow.Author.Tests.{eqb-true, eqb-false}
 use Rattle.laws.specs.Range.{joinTo}
-use Rattle.laws.proofs.Tests.{all-at}
 use Rattle.laws.proofs.Rows.{length-rows, entry-at}
-use Rattle.mesh.specs.Check.{allWithin, meshNumber}
+use Rattle.mesh.specs.Check.{meshNumber}
 use Rattle.curvature.specs.declared.vectors.Vector.{Vector}
 use Rattle.curvature.specs.declared.answers.Answer.the-variants.{Open, Flat, Bent}
 use Rattle.curvature.specs.declared.answers.Reading.{Reading}
@@ -87,7 +86,7 @@ left-by true true number areas vectors g o e z yes-zero no-zero = (yes-zero refl
 left-by true false number areas vectors g o e z yes-zero no-zero = absurd (omega (arith, ap (λ x. x .number) e, z))
 left-by false fits number areas vectors g o e z yes-zero no-zero = absurd (no-zero refl (sym (ap (λ x. x .number) e) ∙ z))
 
-left-granted : (points triangles marks : List ℕ) (areas vectors : List Float) (o : Outcome) → Curves points triangles marks areas vectors o → o .number ≡ 0
+pub left-granted : (points triangles marks : List ℕ) (areas vectors : List Float) (o : Outcome) → Curves points triangles marks areas vectors o → o .number ≡ 0
     → (meshNumber points triangles marks ≡ 0) × (o ≡ granted points triangles marks)
 unfolding outcome
 left-granted points triangles marks areas vectors o e z =

@@ -1,7 +1,5 @@
 -- A triangle in whole numbers (document 01, "Areas and mean curvature"): for its corners p, q, r, taken round, what is said of corner p.
-use mathlib.Core.List.{List}
 use Prim.Native.Nat.{ℕ, _+_, _*_}
-use lib.ListN.{getD}
 use lib.IntN.{ℤ, pos, natAbs, _+ℤ_, _-ℤ_, _*ℤ_}
 use Rattle.mesh.specs.declared.Place.{Place}
 use Rattle.curvature.specs.declared.sides.Side.{Side}

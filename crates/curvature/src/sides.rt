@@ -1,6 +1,6 @@
 // A triangle in whole numbers: places, the sides between them, and their products.
 ghost use mathlib.Core.Path.{_≡_};
-ghost use Prim.Native.Nat.{_+_, _*_, _<_, _≤_};
+ghost use Prim.Native.Nat.{_+_, _*_, _≤_};
 ghost use lib.IntN.{natAbs, _-ℤ_, _*ℤ_};
 ghost use Rattle.grid.specs.Limits.{mostCoordinate};
 ghost use Rattle.mesh.specs.Place.{Near};

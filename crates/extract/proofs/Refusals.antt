@@ -1,19 +1,15 @@
 -- The refusals by sides and lengths, and the way past them.
-use mathlib.Core.Path.{_≡_, refl, sym}
+use mathlib.Core.Path.{_≡_}
 use mathlib.Core.List.{List}
-use mathlib.Core.Bool.{Bool, true, false, _&&_}
-use Prim.Native.Nat.{ℕ, _*_, _<_, _≤_}
+use mathlib.Core.Bool.{true, false}
+use Prim.Native.Nat.{ℕ, _*_, _≤_}
 use native.Mathlib.Nat.{mul-le-mul}
-use native.Mathlib.Omega.{arith}
-use lib.Dec.{eqb, leb}
 use lib.ListN.{length}
-use borrow.Author.Tests.{leb-true, eq-eqb, ne-eqb}
-use Rattle.laws.proofs.Tests.{both}
-use Rattle.grid.specs.Limits.{leastSide, mostSide}
+use borrow.Author.Tests.{eq-eqb, ne-eqb}
 use Rattle.grid.specs.Sides.{sidesFit}
 use Rattle.grid.specs.Grid.{axes, sampleCount, edgeCount}
 use Rattle.grid.specs.Work.{size, SidesFit}
-use Rattle.extract.specs.Outcome.{Rooms, Outcome, refused, measured, extracted}
+use Rattle.extract.specs.Outcome.{Rooms, refused, measured, extracted}
 use Rattle.extract.specs.Promise.{left}
 use Rattle.extract.proofs.Ways.{rows-most}
 

@@ -1,7 +1,7 @@
 -- What a call of the extractor leaves behind (document 01, "Points and order" and "Numbers that refuse").
 use mathlib.Core.List.{List, map, flatMap}
-use mathlib.Core.Bool.{Bool, cond, not}
-use Prim.Native.Nat.{ℕ, _*_, _/_, min}
+use mathlib.Core.Bool.{cond, not}
+use Prim.Native.Nat.{ℕ, _/_, min}
 use lib.Dec.{eqb, ltb}
 use lib.ListN.{length, replicate}
 use Rattle.laws.specs.Room.{laid}

@@ -1,7 +1,6 @@
 -- Signed whole numbers.
 use mathlib.Core.List.{List, [], _∷_}
 use mathlib.Core.Bool.{Bool, true, false}
-use Prim.Native.Nat.{ℕ, zero}
 use lib.IntN.{ℤ, pos, negsuc, _+ℤ_}
 
 unfoldable pub negative : ℤ → Bool

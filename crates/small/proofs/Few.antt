@@ -1,8 +1,7 @@
 -- A grid has at most three points and five triangles a sample.
-use mathlib.Core.Path.{_≡_, ap, sym, _∙_}
-use mathlib.Core.List.{List, map}
+use mathlib.Core.Path.{_≡_, _∙_}
 use mathlib.Core.Bool.{Bool}
-use Prim.Native.Nat.{ℕ, _*_, _-_, _<_, _≤_}
+use Prim.Native.Nat.{ℕ, _*_, _-_, _≤_}
 use native.Mathlib.Nat.{mul-le-mul, mul-assoc}
 use native.Mathlib.Omega.{arith}
 use lib.ListN.{length, length-map}
@@ -11,7 +10,6 @@ use Rattle.laws.specs.Mesh.{rename}
 use Rattle.laws.proofs.Keep.{length-keep}
 use Rattle.laws.proofs.Ranges.{count-le, sum-most}
 use Rattle.laws.proofs.Box.{length-box}
-use Rattle.cube.specs.Cube.{caseOf}
 use Rattle.cube.specs.Answer.{triangles, count}
 use Rattle.cube.proofs.Corners.{case-small}
 use Rattle.grid.specs.Grid.{Size, axes, sampleCount, edgeCount, crossed}

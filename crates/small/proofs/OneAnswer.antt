@@ -1,7 +1,7 @@
 -- The promise leaves one answer to each input.
-use mathlib.Core.Path.{_≡_, refl, ap, ap₂, sym, _∙_, subst}
+use mathlib.Core.Path.{_≡_, ap, ap₂, sym, _∙_, subst}
 use mathlib.Core.List.{List}
-use Prim.Native.Nat.{ℕ, _≤_}
+use Prim.Native.Nat.{ℕ}
 use native.Mathlib.Omega.{arith}
 use lib.ListN.{length, take, replicate, length-replicate}
 use Rattle.laws.specs.Range.{joinTo}
@@ -13,7 +13,7 @@ use Rattle.shells.specs.Record.{recordOf}
 use Rattle.shells.proofs.OneNumbering.{one-numbering}
 use Rattle.closed.specs.Left.{Mesh}
 use Rattle.listing.specs.Listing.{numbersOf}
-use Rattle.text.specs.Grid.{samplesOf, Outcome, granted, readGrid}
+use Rattle.text.specs.Grid.{samplesOf, granted, readGrid}
 use Rattle.text.specs.MeshText.{meshText}
 use Rattle.text.specs.GridText.{Small, gridText}
 use Rattle.text.specs.declared.small.Head.{Head}

@@ -1,16 +1,13 @@
 -- An input as it was read: a refusal is answered with its line, and else it is the text of a small grid.
-use mathlib.Core.Path.{_≡_, refl, ap, ap₂, sym, _∙_, subst}
+use mathlib.Core.Path.{_≡_, ap, ap₂, sym, _∙_, subst}
 use mathlib.Core.List.{List}
 use Prim.Native.Nat.{ℕ, _*_, _≤_}
-use native.Mathlib.Omega.{arith}
 use lib.ListN.{length, take, replicate}
 use Rattle.laws.proofs.Rooms.{laid-read}
 use Rattle.grid.specs.Limits.{mostSmall}
 use Rattle.text.specs.Writing.{refusalText}
 use Rattle.text.specs.Grid.{samplesOf, headNumber, granted, readGrid}
-use Rattle.text.specs.GridText.{Small}
 use Rattle.text.specs.Promise.{left}
-use Rattle.text.specs.declared.small.Head.{Head}
 use Rattle.text.specs.declared.small.Parsed.{Parsed}
 use Rattle.text.proofs.Checks.{passed, rows-few}
 use Rattle.text.proofs.GridTexts.{Taken, grid-taken}

@@ -1,17 +1,16 @@
 -- Each step of the program is granted, and what it leaves is what is defined.
-use mathlib.Core.Path.{_≡_, refl, ap, sym, _∙_, subst}
-use mathlib.Core.List.{List, map, flatMap, _++_}
-use mathlib.Core.Bool.{Bool, true, false, cond, not, _&&_}
-use Prim.Native.Nat.{ℕ, _+_, _*_, _/_, _≤_, _<_, min}
+use mathlib.Core.Path.{_≡_, ap, _∙_}
+use mathlib.Core.List.{List}
+use mathlib.Core.Bool.{true}
+use Prim.Native.Nat.{ℕ, _+_, _*_, _≤_, min}
 use native.Mathlib.Omega.{arith}
-use lib.Dec.{eqb, leb, ltb}
-use lib.ListN.{length, take, drop, replicate}
+use lib.ListN.{length}
 use borrow.Author.Tests.{eq-eqb, le-leb, le-ltb}
 use Rattle.grid.specs.Limits.{mostSmall, mostRounds, mostWeight}
 use Rattle.grid.specs.Sides.{sidesFit}
 use Rattle.grid.specs.Grid.{Size, axes, isAboveGrey, sampleCount, edgeCount}
 use Rattle.grid.specs.Work.{size}
-use Rattle.extract.specs.Outcome.{Rooms, Outcome, pointList, triangleList, pointRoom, triangleRoom, granted, measured, extracted}
+use Rattle.extract.specs.Outcome.{Rooms, pointList, triangleList, pointRoom, triangleRoom, granted, measured, extracted}
 use Rattle.mesh.specs.Mesh.{triangleCount, trianglesOf}
 use Rattle.mesh.specs.Check.{meshNumber}
 use Rattle.smooth.specs.Round.{rounds}

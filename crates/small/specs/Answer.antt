@@ -2,7 +2,6 @@
 use mathlib.Core.Path.{_≡_}
 use mathlib.Core.List.{List, map, flatMap}
 use Prim.Native.Nat.{ℕ}
-use lib.IntN.{ℤ}
 use lib.ListN.{length, replicate}
 use Rattle.laws.specs.Range.{joinTo}
 use Rattle.laws.specs.Values.{listTo}

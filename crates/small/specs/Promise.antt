@@ -1,7 +1,7 @@
 -- What the functions of the program ask and promise.
 use mathlib.Core.Path.{_≡_}
 use mathlib.Core.List.{List}
-use Prim.Native.Nat.{ℕ, _*_, _/_, _≤_}
+use Prim.Native.Nat.{ℕ, _/_, _≤_}
 use lib.ListN.{length}
 use Rattle.mesh.specs.Check.{meshNumber}
 use Rattle.closed.specs.Left.{Mesh}

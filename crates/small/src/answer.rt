@@ -1,5 +1,4 @@
 // What the program answers to its input: read, extract, smooth, list, write. All rooms are local.
-ghost use mathlib.Core.Path.{_≡_};
 ghost use Prim.Native.Nat.{_≤_};
 ghost use lib.ListN.{length, take};
 ghost use Rattle.grid.specs.Limits.{mostRounds, mostWeight};

@@ -1,25 +1,23 @@
 -- The checks of a grid's text in their order.
-use mathlib.Core.Path.{_≡_, refl, ap, sym, _∙_}
+use mathlib.Core.Path.{_≡_, refl, _∙_}
 use mathlib.Core.List.{List}
 use mathlib.Core.Bool.{Bool, true, false, cond, not, _&&_}
-use Prim.Native.Nat.{ℕ, _+_, _*_, _≤_, _<_}
+use Prim.Native.Nat.{ℕ, _*_, _≤_, _<_}
 use native.Mathlib.Nat.{mul-le-mul-right, one-mul}
 use native.Mathlib.Omega.{arith}
-use lib.Dec.{eqb, leb, ltb}
+use lib.Dec.{leb}
 use lib.ListN.{length, drop}
 use borrow.Author.Tests.{leb-true, eq-eqb, ne-eqb, lt-ltb, le-ltb}
 use Rattle.laws.specs.Room.{laid}
-use Rattle.laws.proofs.Tests.{both}
-use Rattle.grid.specs.Limits.{leastSide, mostSide, mostRounds, mostWeight, mostSmall}
+use Rattle.grid.specs.Limits.{mostRounds, mostWeight, mostSmall}
 use Rattle.grid.specs.Sides.{sidesFit}
 use Rattle.grid.proofs.Sides.{sides-within}
 use Rattle.text.specs.Reading.{Got, bad, got, mostNumber, Rows, malformed, rows, readRows}
 use Rattle.text.specs.Answers.{answeredRows}
-use Rattle.text.specs.Grid.{samplesOf, smoothingFits, headNumber, Outcome, refusal, refused, grant, granted, withRows, withHead}
+use Rattle.text.specs.Grid.{samplesOf, smoothingFits, headNumber, refusal, refused, grant, granted, withRows, withHead}
 use Rattle.text.specs.Promise.{answeredHead, filled, left}
 use Rattle.text.specs.declared.small.Head.{Head}
 use Rattle.text.specs.declared.small.Headed.{Headed}
-use Rattle.text.specs.declared.small.Parsed.{Parsed}
 
 -- line 1's numbers passed
 pub passed : (h : Head) → headNumber h ≡ 0 → (sidesFit (h .nx) (h .ny) (h .nz) ≡ true) × (samplesOf h ≤ mostSmall) × (leb (h .rounds) mostRounds && leb (h .weight) mostWeight ≡ true)

@@ -1,9 +1,9 @@
 -- Document 01's worked example and texts that are refused, run through the definitions.
 use mathlib.Core.Path.{_≡_, refl}
 use mathlib.Core.List.{List, [], _∷_, _++_}
-use mathlib.Core.Bool.{Bool, true, false, cond, not, _&&_}
+use mathlib.Core.Bool.{Bool, true, _&&_}
 use Prim.Native.Nat.{ℕ}
-use lib.Dec.{eqb, leb, ltb}
+use lib.Dec.{eqb}
 use lib.ListN.{length, replicate}
 use Rattle.laws.specs.Range.{joinTo}
 use Rattle.laws.specs.Sum.{allOf}
@@ -15,8 +15,8 @@ use Rattle.text.specs.Decimal.{isDigit, decimalTo, decimal, signed}
 use Rattle.text.specs.Reading.{after, digitsOn, readNumber, endedBy, readField, endOf, readRow, ahead, lineThen, readRows}
 use Rattle.text.specs.Writing.{line, fields, lettered, refusalText}
 use Rattle.text.specs.MeshText.{pointsText, trianglesText, shellText, shellsText, linesOf, meshText}
-use Rattle.text.specs.Grid.{headOf, readHead, samplesOf, smoothingFits, headNumber, Outcome, refused, granted, withRows, withHead, readGrid}
-use Rattle.text.specs.GridText.{sizeOf, row, rowsText, headText, gridText}
+use Rattle.text.specs.Grid.{headOf, readHead, smoothingFits, headNumber, refused, granted, withRows, withHead, readGrid}
+use Rattle.text.specs.GridText.{row, rowsText, headText, gridText}
 use Rattle.text.specs.declared.small.Head.{Head}
 
 -- `G 2 2 2 50 0 0`, and the four rows, with tabs

@@ -1,21 +1,20 @@
 -- The reader takes the text of each small grid, with the grid in it, and takes nothing else.
 use mathlib.Core.Path.{_≡_, refl, ap, sym, _∙_}
 use mathlib.Core.List.{List, [], _∷_, _++_}
-use mathlib.Core.Bool.{Bool, true, false, cond, not, _&&_}
+use mathlib.Core.Bool.{Bool, true, false, cond, _&&_}
 use Prim.Native.Nat.{ℕ, zero, suc, _+_, _*_, _≤_, _<_}
 use native.Mathlib.Nat.{add-comm}
 use native.Mathlib.Decide.{decLt, ℕ-discrete}
 use native.Mathlib.Omega.{arith}
-use lib.Dec.{eqb, leb, ltb}
+use lib.Dec.{eqb, leb}
 use lib.ListN.{length, getD, length-append}
 use borrow.Author.Tests.{eqb-true, leb-true}
 use Rattle.laws.specs.Range.{joinTo}
 use Rattle.laws.specs.Sum.{All}
-use Rattle.laws.specs.Room.{laid}
 use Rattle.laws.proofs.Tests.{both}
 use Rattle.laws.proofs.Sums.{all-append}
 use Rattle.laws.proofs.Ranges.{join-cong, join-blocks}
-use Rattle.grid.specs.Limits.{mostSide, mostRounds, mostWeight}
+use Rattle.grid.specs.Limits.{mostRounds, mostWeight}
 use Rattle.grid.specs.Grid.{site}
 use Rattle.text.specs.Reading.{Got, bad, got, after, mostNumber, readRow, Rows, malformed, rows, readRows}
 use Rattle.text.specs.Writing.{line}
@@ -25,7 +24,7 @@ use Rattle.text.specs.declared.small.Head.{Head}
 use Rattle.text.proofs.Digits.{never}
 use Rattle.grid.proofs.Sides.{sides-within}
 use Rattle.text.proofs.Checks.{passed, head-refused, room-short, room-holds}
-use Rattle.text.proofs.Texts.{all-entries, part, row-written, IsLine, row-read, rows-written, AreLines, rows-read}
+use Rattle.text.proofs.Texts.{all-entries, part, row-written, IsLine, row-read, rows-written, rows-read}
 
 -- the rows of a grid in the order of the file
 row-part : (h : Head) (samples : List ℕ) (y z : ℕ) → row (sizeOf h) samples y z ≡ part (h .nx) samples (h .ny * z + y)

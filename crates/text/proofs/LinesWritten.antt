@@ -1,10 +1,10 @@
 -- Lines of text, measured and written one after the other.
-use mathlib.Core.Path.{_≡_, refl, sym, _∙_}
+use mathlib.Core.Path.{_≡_, refl, _∙_}
 use mathlib.Core.List.{List, [], _++_}
 use Prim.Native.Nat.{ℕ, _+_, _≤_}
 use lib.ListN.{length, length-append}
 use lib.Seq.{sets}
-use Rattle.laws.specs.Range.{joinTo, sumTo}
+use Rattle.laws.specs.Range.{joinTo}
 use Rattle.laws.proofs.Ranges.{join-next, length-join, sum-rises}
 use Rattle.laws.proofs.Writes.{sets-append}
 

@@ -1,22 +1,20 @@
 -- Line 1 and the samples of a small grid.
 use mathlib.Core.Path.{_≡_, refl, ap, sym, _∙_}
-use mathlib.Core.List.{List, [], _∷_, _++_}
-use mathlib.Core.Bool.{Bool, true, false, cond, not, _&&_, and-false}
-use Prim.Native.Nat.{ℕ, zero, suc, _+_, _*_, _-_, _≤_, _<_}
+use mathlib.Core.List.{List, [], _∷_}
+use mathlib.Core.Bool.{true, and-false}
+use Prim.Native.Nat.{ℕ, _+_, _*_, _-_, _≤_, _<_}
 use native.Mathlib.Nat.{mul-le-mul}
 use native.Mathlib.Numerals.{add-one}
 use native.Mathlib.Omega.{arith}
-use lib.Dec.{eqb, leb}
-use lib.ListN.{length, getD, take, drop, set, length-take}
+use lib.ListN.{length, getD, take, drop, set}
 use lib.Seq.{take-suc, length-take-le, getD-take, take-at}
-use borrow.Author.Tests.{leb-true, eq-eqb, ne-eqb}
+use borrow.Author.Tests.{eq-eqb, ne-eqb}
 use Rattle.laws.specs.Room.{laid}
-use Rattle.laws.proofs.Tests.{both}
 use Rattle.laws.proofs.Rooms.{laid-next}
-use Rattle.grid.specs.Limits.{leastSide, mostSide}
+use Rattle.grid.specs.Limits.{mostSide}
 use Rattle.grid.specs.Sides.{sidesFit}
 use Rattle.grid.proofs.Sides.{sides-within}
-use Rattle.text.specs.Reading.{Got, bad, got, after, mostNumber, readRow, Rows, malformed, rows}
+use Rattle.text.specs.Reading.{bad, got, after, mostNumber, readRow, Rows, malformed, rows}
 use Rattle.text.specs.Answers.{answeredRows}
 use Rattle.text.specs.Promise.{filled}
 use Rattle.text.specs.Grid.{headOf, readHead}

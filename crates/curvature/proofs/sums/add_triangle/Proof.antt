@@ -1,7 +1,6 @@
 -- `curvature::sums::add_triangle` meets its contract. Assumes nothing.
 use mathlib.Core.Path.{sym, _∙_}
 use native.Mathlib.Nat.{pos-of-ne-zero}
-use native.Mathlib.Omega.{arith}
 use borrow.Author.Needs.{needs}
 use Rattle.laws.specs.Mesh.{triangle}
 use Rattle.mesh.specs.Place.{Near}

@@ -1,17 +1,16 @@
 -- `small::answer::write_grid` meets its contract: the extraction is granted, and the mesh that it left is written. Assumes nothing.
-use mathlib.Core.Path.{_≡_, refl, ap, sym, _∙_, subst}
-use mathlib.Core.List.{List}
-use Prim.Native.Nat.{ℕ, _+_, _*_, _/_, _≤_}
+use mathlib.Core.Path.{_≡_, sym, subst}
+use Prim.Native.Nat.{_*_, _≤_}
 use native.Mathlib.Omega.{arith}
 use lib.ListN.{length, take}
 use lib.Seq.{length-take-le}
 use borrow.Author.Needs.{needs}
 use Rattle.extract.specs.Outcome.{Rooms, Outcome}
 use Rattle.extract.specs.Promise.{rooms, left}
-use Rattle.closed.specs.Left.{Mesh, meshLeft, edgesLeft, smoothed}
+use Rattle.closed.specs.Left.{meshLeft, edgesLeft, smoothed}
 use Rattle.text.proofs.Checks.{passed}
 use Rattle.small.specs.Sizes.{mostPoints, mostTriangles}
-use Rattle.small.specs.Answer.{gridEdges, extractedMesh, smoothedMesh, Prints}
+use Rattle.small.specs.Answer.{gridEdges, smoothedMesh, Prints}
 use Rattle.small.specs.Promise.{headIn}
 use Rattle.small.proofs.Steps.{RoomsHold}
 use Rattle.small.proofs.Extracted.{smoothing-fits, points-counted, triangles-counted, small-mesh, edges-are, mesh-is}

@@ -1,14 +1,11 @@
 -- `small::answer::write_listed` meets its contract: the shells are listed, and the mesh is written with their records. Assumes nothing.
-use mathlib.Core.Path.{_≡_, refl, ap, sym, _∙_}
-use mathlib.Core.List.{List}
-use mathlib.Core.Bool.{true}
-use Prim.Native.Nat.{ℕ, _+_, _*_, _/_, _≤_}
+use mathlib.Core.Path.{_≡_, sym}
+use Prim.Native.Nat.{_*_}
 use native.Mathlib.Omega.{arith}
 use lib.ListN.{length, take}
 use lib.Seq.{length-take-le}
 use borrow.Author.Needs.{needs}
 use Rattle.shells.specs.Promise.{left}
-use Rattle.small.specs.Sizes.{mostPoints}
 use Rattle.small.proofs.Listed.{Told, told, numbers-many, volumes-many, mesh-printed}
 use Rattle.small.proofs.answer.write_listed.Statement.{statement}
 use Rattle.small.proofs.answer.write_listed.Tie as tie

@@ -1,7 +1,7 @@
 -- `small::answer::write_smoothed` meets its contract: smoothing is granted, and the mesh is written with the smoothed points. Assumes nothing.
 use mathlib.Core.Path.{_≡_, ap, sym, _∙_, subst}
 use mathlib.Core.List.{List, _++_}
-use Prim.Native.Nat.{ℕ, _+_, _*_, _/_, _≤_}
+use Prim.Native.Nat.{ℕ, _+_, _*_, _/_}
 use native.Mathlib.Omega.{arith}
 use lib.ListN.{length, take, drop, length-append}
 use lib.Seq.{length-take-le, take-at}
@@ -11,7 +11,7 @@ use Rattle.smooth.specs.Round.{rounds}
 use Rattle.smooth.proofs.Within.{smoothed-passes}
 use Rattle.closed.specs.Left.{smoothed}
 use Rattle.small.specs.Answer.{Prints}
-use Rattle.small.specs.Promise.{meshOf, SmallMesh}
+use Rattle.small.specs.Promise.{meshOf}
 use Rattle.small.proofs.Steps.{smooth-granted}
 use Rattle.small.proofs.answer.write_smoothed.Statement.{statement}
 use Rattle.small.proofs.answer.write_smoothed.Tie as tie

@@ -1,11 +1,11 @@
 -- `text::mesh_text::write_lines` meets its contract: the parts one after the other. Assumes nothing.
-use mathlib.Core.Path.{_≡_, sym, _∙_}
+use mathlib.Core.Path.{_≡_}
 use Prim.Native.Nat.{_+_, _*_, _/_, _≤_}
 use native.Mathlib.Omega.{arith}
 use lib.ListN.{length}
 use Rattle.grid.specs.Limits.{mostPoints, mostTriangles}
 use Rattle.text.specs.Writing.{fields}
-use Rattle.text.specs.MeshText.{pointsText, trianglesText, shellsText, linesOf}
+use Rattle.text.specs.MeshText.{pointsText, trianglesText, shellsText}
 use Rattle.text.proofs.Written.{lettered-length}
 use Rattle.text.proofs.MeshTexts.{lists-fit, records-fit, lines-of-length, lines-of-written}
 use borrow.Author.Needs.{needs}

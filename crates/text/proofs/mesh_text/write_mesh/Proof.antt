@@ -1,7 +1,7 @@
 -- `text::mesh_text::write_mesh` meets its contract: the lists, the records, the length, and then the lines. Assumes nothing.
 use mathlib.Core.Path.{_≡_, refl, ap, sym, _∙_}
 use mathlib.Core.Bool.{true}
-use Prim.Native.Nat.{_*_, _/_, _≤_}
+use Prim.Native.Nat.{_/_, _≤_}
 use native.Mathlib.Omega.{arith}
 use lib.ListN.{length}
 use Rattle.grid.specs.Limits.{mostPoints, mostTriangles}

@@ -1,7 +1,7 @@
 -- `text::mesh_text::write_shell` meets its contract: the letter, the four numbers, and the volume. Assumes nothing.
 use mathlib.Core.Path.{_≡_, ap, _∙_}
 use mathlib.Core.List.{_++_, _∷_, []}
-use Prim.Native.Nat.{_+_, _≤_, _<_}
+use Prim.Native.Nat.{_+_}
 use native.Mathlib.Omega.{arith}
 use lib.ListN.{length, set, length-set}
 use lib.Seq.{sets}
@@ -10,8 +10,6 @@ use mir.Val.{toZ, ofZ}
 use mir.Facts.{toZ-ofZ}
 use borrow.Author.Needs.{needs}
 use Rattle.text.specs.Decimal.{signed}
-use Rattle.text.specs.Writing.{fields}
-use Rattle.text.specs.MeshText.{shellText}
 use Rattle.text.proofs.ShellTexts.{shell-length, shell-written}
 use Rattle.text.proofs.mesh_text.write_shell.Statement.{statement}
 use Rattle.text.proofs.mesh_text.write_shell.Tie as tie

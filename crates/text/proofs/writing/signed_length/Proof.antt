@@ -1,13 +1,10 @@
 -- `text::writing::signed_length` meets its contract: the digits of the size, and one byte for a minus sign. Assumes nothing.
 use mathlib.Core.Path.{_≡_, ap, sym, _∙_}
-use mathlib.Core.Bool.{true, false}
-use Prim.Native.Nat.{_+_, _≤_}
 use native.Mathlib.Omega.{arith}
 use lib.IntN.{natAbs}
 use lib.ListN.{length}
 use borrow.Author.Needs.{needs}
-use Rattle.laws.specs.Signed.{negative}
-use Rattle.text.specs.Decimal.{decimal, signed}
+use Rattle.text.specs.Decimal.{decimal}
 use Rattle.text.proofs.Signs.{signed-plain, signed-minus, sign-learnt, size-learnt, size-digits}
 use Rattle.text.proofs.writing.signed_length.Statement.{statement}
 use Rattle.text.proofs.writing.signed_length.Tie as tie

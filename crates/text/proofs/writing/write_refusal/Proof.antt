@@ -1,9 +1,7 @@
 -- `text::writing::write_refusal` meets its contract: the length first, then the line. Assumes nothing.
-use mathlib.Core.Path.{_≡_, sym, _∙_}
 use mathlib.Core.List.{_∷_, []}
 use Prim.Native.Nat.{_+_}
 use native.Mathlib.Omega.{arith}
-use lib.ListN.{length}
 use Rattle.text.specs.Writing.{lettered, refusalText}
 use Rattle.text.proofs.Written.{lettered-length, written-front, written-not}
 use borrow.Author.Needs.{needs}
