@@ -18,7 +18,7 @@ use Rattle.text.specs.MeshText.{meshText}
 use Rattle.text.specs.GridText.{Small, gridText}
 use Rattle.text.specs.declared.small.Head.{Head}
 use Rattle.text.proofs.Checks.{passed}
-use Rattle.text.proofs.GridTexts.{grid-read}
+use Rattle.text.proofs.GridTexts.{grid-read, grid-taken}
 use Rattle.small.specs.Answer.{smoothedMesh, gridEdges, Prints, Answers, printed, refused}
 use Rattle.small.specs.Promise.{headIn}
 
@@ -35,25 +35,41 @@ abbrev room : List ℕ
 room = replicate mostSmall 0
 
 -- the grid of a text
-read : (input : List ℕ) (h : Head) (samples : List ℕ) → Small h samples → input ≡ gridText h samples → readGrid input room ≡ granted h samples room
-read input h samples small e =
+pub grid-of-text : (input : List ℕ) (h : Head) (samples : List ℕ) → Small h samples → input ≡ gridText h samples → readGrid input room ≡ granted h samples room
+grid-of-text input h samples small e =
     rw e (grid-read h samples room small (omega (arith, passed h (small .checked) .1, length-replicate {A = ℕ} mostSmall 0)))
 
 front : (h : Head) (samples : List ℕ) → Small h samples → take (samplesOf h) (granted h samples room .samples) ≡ samples
 unfolding granted
 front h samples small = laid-read samples room (samplesOf h) (small .whole)
 
--- and it is the only one
+-- a granted grid says which one it is
+head-of-granted : (h h′ : Head) (s s′ : List ℕ) → granted h s room ≡ granted h′ s′ room → h ≡ h′
+unfolding granted
+head-of-granted h h′ s s′ e = ap (λ o. headIn (o .answer)) e
+
+samples-of-granted : (h h′ : Head) (s s′ : List ℕ) → Small h s → Small h′ s′ → granted h s room ≡ granted h′ s′ room → s ≡ s′
+samples-of-granted h h′ s s′ small small′ e =
+    sym (front h s small) ∙ (ap₂ (λ k o. take (samplesOf k) (o .samples)) (head-of-granted h h′ s s′ e) e ∙ front h′ s′ small′)
+
+-- and what is read as a grid is its text
+pub text-of-grid : (input : List ℕ) (h : Head) (samples : List ℕ) → Small h samples → readGrid input room ≡ granted h samples room → input ≡ gridText h samples
+unfolding granted
+text-of-grid input h samples small e =
+    let t = grid-taken input room (ap (λ o. o .answer .number) e) in
+    let q = sym (t .answer) ∙ e in
+    t .text ∙ ap₂ gridText (head-of-granted (t .head) h (t .samples) samples q) (samples-of-granted (t .head) h (t .samples) samples (t .small) small q)
+
+-- a text is that of one grid
 module _ (input : List ℕ) (h h′ : Head) (s s′ : List ℕ) (small : Small h s) (small′ : Small h′ s′) (e : input ≡ gridText h s) (e′ : input ≡ gridText h′ s′) where
   same : granted h s room ≡ granted h′ s′ room
-  same = sym (read input h s small e) ∙ read input h′ s′ small′ e′
+  same = sym (grid-of-text input h s small e) ∙ grid-of-text input h′ s′ small′ e′
 
   same-head : h ≡ h′
-  unfolding granted
-  same-head = ap (λ o. headIn (o .answer)) same
+  same-head = head-of-granted h h′ s s′ same
 
   same-samples : s ≡ s′
-  same-samples = sym (front h s small) ∙ (ap₂ (λ k o. take (samplesOf k) (o .samples)) same-head same ∙ front h′ s′ small′)
+  same-samples = samples-of-granted h h′ s s′ small small′ same
 
 pub one-answer : (input a b : List ℕ) → Answers input a → Answers input b → a ≡ b
 unfolding granted
@@ -62,6 +78,6 @@ one-answer input a b (printed h s small e p) (printed h′ s′ small′ e′ p�
     let l = same-samples input h h′ s s′ small small′ e e′ in
     let q = subst (λ h. Prints (smoothedMesh h s′) (gridEdges h s′) b) (sym k) p′ in
     one-print (smoothedMesh h s) (gridEdges h s) a b p (subst (λ s. Prints (smoothedMesh h s) (gridEdges h s) b) (sym l) q)
-one-answer input a b (printed h s small e p) (refused n r) = absurd (n (ap (λ o. o .answer .number) (read input h s small e)))
-one-answer input a b (refused n r) (printed h s small e p) = absurd (n (ap (λ o. o .answer .number) (read input h s small e)))
+one-answer input a b (printed h s small e p) (refused n r) = absurd (n (ap (λ o. o .answer .number) (grid-of-text input h s small e)))
+one-answer input a b (refused n r) (printed h s small e p) = absurd (n (ap (λ o. o .answer .number) (grid-of-text input h s small e)))
 one-answer input a b (refused n r) (refused n′ r′) = r ∙ sym r′
