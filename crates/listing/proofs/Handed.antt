@@ -1,17 +1,19 @@
 -- Records handed on: none, one more, and as many as `shells::shells` answers; so what it promises of its records is said of the numbers and the volumes.
 use mathlib.Core.Path.{_≡_, refl, ap, sym, _∙_, subst}
 use mathlib.Core.List.{List}
-use Prim.Native.Nat.{ℕ, zero, suc, _+_, _*_, _<_, _≤_}
+use Prim.Native.Nat.{ℕ, _+_, _*_, _<_, _≤_}
+use native.Mathlib.Nat.{mul-comm}
 use native.Mathlib.Omega.{arith}
 use borrow.Author.Tests.{eq-eqb}
 use lib.IntN.{ℤ}
-use lib.ListN.{length, getD, set, length-append}
+use lib.ListN.{length, getD, set}
 use lib.Seq.{sets}
 use Rattle.laws.specs.Range.{joinTo}
 use Rattle.laws.specs.Room.{laid}
 use Rattle.laws.specs.Values.{listTo}
 use Rattle.laws.proofs.Ranges.{join-next, join-cong}
 use Rattle.laws.proofs.Rooms.{length-laid}
+use Rattle.laws.proofs.Rows.{length-rows}
 use Rattle.laws.proofs.Values.{laid-more, laid-at, list-cong, length-list}
 use Rattle.laws.proofs.Writes.{sets-append, sets-front}
 use Rattle.shells.specs.declared.Shell.{Shell}
@@ -21,10 +23,8 @@ use Rattle.shells.specs.Promise.{Outcome, Lists, Shells, recordsAfter, refused,
 use Rattle.listing.specs.Listing.{mostListed, numbersOf, numbersHanded, volumesHanded, Listing}
 
 -- four numbers a record
-long : (n : ℕ) (shell : ℕ → Shell) → length (joinTo n (λ k. numbersOf (shell k))) ≡ 4 * n
-unfolding joinTo
-long zero shell = refl
-long (suc n) shell = simp length-append (omega (arith, long n shell))
+pub four-each : (n : ℕ) (shell : ℕ → Shell) → length (joinTo n (λ k. numbersOf (shell k))) ≡ 4 * n
+four-each n shell = length-rows 4 (λ k. numbersOf (shell k)) (λ k. refl) n ∙ mul-comm n 4
 
 -- the numbers' room: nothing handed on, one record more, and as long as it was
 pub numbers-none : (shell : ℕ → Shell) (room : List ℕ) → room ≡ numbersHanded 0 shell room
@@ -36,9 +36,9 @@ pub numbers-more : (n : ℕ) (shell : ℕ → Shell) (room : List ℕ) → 4 * n
 unfolding numbersHanded
 numbers-more n shell room h =
     let f : ℕ → List ℕ = λ k. numbersOf (shell k) in
-    let now : laid (joinTo n f) room ≡ sets room 0 (joinTo n f) = sym (sets-front room (joinTo n f) (omega (arith, long n shell))) in
-    let next : sets room 0 (joinTo (n + 1) f) ≡ laid (joinTo (n + 1) f) room = sets-front room (joinTo (n + 1) f) (omega (arith, long (n + 1) shell)) in
-    let end : 4 * n ≡ 0 + length (joinTo n f) = omega (arith, long n shell) in
+    let now : laid (joinTo n f) room ≡ sets room 0 (joinTo n f) = sym (sets-front room (joinTo n f) (omega (arith, four-each n shell))) in
+    let next : sets room 0 (joinTo (n + 1) f) ≡ laid (joinTo (n + 1) f) room = sets-front room (joinTo (n + 1) f) (omega (arith, four-each (n + 1) shell)) in
+    let end : 4 * n ≡ 0 + length (joinTo n f) = omega (arith, four-each n shell) in
     ap (λ l. sets l (4 * n) (f n)) now
     ∙ ap (λ i. sets (sets room 0 (joinTo n f)) i (f n)) end
     ∙ sets-append room 0 (joinTo n f) (f n)
@@ -47,7 +47,7 @@ numbers-more n shell room h =
 
 pub numbers-long : (n : ℕ) (shell : ℕ → Shell) (room : List ℕ) → 4 * n ≤ length room → length (numbersHanded n shell room) ≡ length room
 unfolding numbersHanded
-numbers-long n shell room h = length-laid (joinTo n (λ k. numbersOf (shell k))) room (omega (arith, long n shell))
+numbers-long n shell room h = length-laid (joinTo n (λ k. numbersOf (shell k))) room (omega (arith, four-each n shell))
 
 -- and the volumes'
 pub volumes-none : (shell : ℕ → Shell) (room : List ℤ) → room ≡ volumesHanded 0 shell room

@@ -9,11 +9,10 @@ use lib.Dec.{eqb}
 use lib.IntN.{ℤ}
 use lib.ListN.{length, getD, set}
 use borrow.Author.Tests.{eq-eqb, ne-eqb}
-use Rattle.laws.specs.Range.{sumTo, countTo, keepTo, joinTo}
+use Rattle.laws.specs.Range.{keepTo, joinTo}
 use Rattle.laws.specs.Room.{laid}
 use Rattle.laws.specs.Values.{listTo}
-use Rattle.laws.proofs.Ranges.{keep-cong}
-use Rattle.laws.proofs.Binary.{bit-le}
+use Rattle.laws.proofs.Ranges.{keep-cong, count-le}
 use Rattle.laws.proofs.Keep.{length-keep}
 use Rattle.laws.proofs.Rooms.{length-laid}
 use Rattle.laws.proofs.Values.{length-list, laid-none, laid-more, laid-at, laid-change, list-cong}
@@ -27,11 +26,6 @@ use Rattle.mesh.proofs.Passed.{corners}
 use Rattle.shells.proofs.Sound.{Passed}
 use Rattle.shells.proofs.OneNumber.{one-number}
 use Rattle.shells.proofs.Making.{with-point, with-triangle, no-record, point-fits, triangle-fits}
-
-count-most : (n : ℕ) (p : ℕ → Bool) → countTo n p ≤ n
-unfolding countTo sumTo
-count-most zero p = omega arith
-count-most (suc n) p = omega (arith, count-most n p, bit-le (p n))
 
 keep-suc : (n : ℕ) (p : ℕ → Bool) → keepTo (suc n) p ≡ keepTo n p ++ cond (p n) (n ∷ []) []
 unfolding keepTo joinTo
@@ -161,7 +155,7 @@ module _ (points triangles marks found : List ℕ) (shells : ℕ) (room : List S
         numbered = omega (arith, below j l, ap length e, long points triangles marks found shells room enough j 0);
         room =
             subst PointFits (sym (ap (λ ys. getD ys n none) e ∙ at points triangles marks found shells room enough j 0 n (below j l)))
-            (point-fits points triangles marks (keepTo j has) _ (omega (arith, length-keep j has, count-most j has, N .long, ok .mesh .few)));
+            (point-fits points triangles marks (keepTo j has) _ (omega (arith, length-keep j has, count-le j has, N .long, ok .mesh .few)));
       }
 
   triangle-turn : (k : ℕ) → k < triangleCount triangles
@@ -179,7 +173,7 @@ module _ (points triangles marks found : List ℕ) (shells : ℕ) (room : List S
         room =
             subst (TriangleFits (sixfold points (triangleAt triangles k)))
             (sym (ap (λ ys. getD ys n none) e ∙ at points triangles marks found shells room enough (length found) k n (below _ (first k l))))
-            (triangle-fits points triangles marks (ok .mesh .coordinates-fit) _ (keepTo k has) k (omega (arith, length-keep k has, count-most k has, ok .mesh .triangles-few)));
+            (triangle-fits points triangles marks (ok .mesh .coordinates-fit) _ (keepTo k has) k (omega (arith, length-keep k has, count-le k has, ok .mesh .triangles-few)));
       }
 
   pub fill-fits : FillFits points triangles marks found shells room

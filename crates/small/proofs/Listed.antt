@@ -3,7 +3,6 @@ use mathlib.Core.Path.{_≡_, refl, ap, ap₂, sym, _∙_, subst}
 use mathlib.Core.List.{List}
 use mathlib.Core.Bool.{true}
 use Prim.Native.Nat.{ℕ, _*_, _/_, _%_, _≤_}
-use native.Mathlib.Nat.{mul-comm}
 use native.Mathlib.Omega.{arith}
 use lib.IntN.{ℤ}
 use lib.ListN.{length, take}
@@ -11,7 +10,6 @@ use borrow.Author.Tests.{eq-eqb, le-leb}
 use Rattle.laws.specs.Range.{joinTo}
 use Rattle.laws.specs.Values.{listTo}
 use Rattle.laws.proofs.Rooms.{laid-read}
-use Rattle.laws.proofs.Rows.{length-rows}
 use Rattle.laws.proofs.Values.{length-list}
 use Rattle.mesh.specs.Mesh.{trianglesOf}
 use Rattle.mesh.specs.Check.{meshNumber}
@@ -27,13 +25,14 @@ use Rattle.text.proofs.Written.{written-read}
 use Rattle.text.proofs.MeshTexts.{mesh-written}
 use Rattle.small.specs.Answer.{Prints}
 use Rattle.small.specs.Promise.{meshOf, SmallMesh}
+use Rattle.listing.proofs.Handed.{four-each}
 use Rattle.listing.specs.Listing.{mostListed, numbersOf, numbersHanded, volumesHanded, Listing}
 
 -- what was handed on, read again
 numbers-front : (count : ℕ) (shell : ℕ → Shell) (room : List ℕ) → take (4 * count) (numbersHanded count shell room) ≡ joinTo count (λ n. numbersOf (shell n))
 unfolding numbersHanded
 numbers-front count shell room =
-    laid-read (joinTo count (λ n. numbersOf (shell n))) room (4 * count) (length-rows 4 (λ n. numbersOf (shell n)) (λ n. refl) count ∙ mul-comm count 4)
+    laid-read (joinTo count (λ n. numbersOf (shell n))) room (4 * count) (four-each count shell)
 
 volumes-front : (count : ℕ) (shell : ℕ → Shell) (room : List ℤ) → take count (volumesHanded count shell room) ≡ listTo count (λ n. shell n .volume)
 unfolding volumesHanded
@@ -70,7 +69,7 @@ module _ (points triangles marks numbers work : List ℕ) (passes : meshNumber p
 module _ (points triangles marks : List ℕ) (o : Outcome) (records : List ℕ) (volumes : List ℤ) (t : Told points triangles marks o records volumes) where
   pub numbers-many : length (take (4 * o .shells) records) ≡ 4 * o .shells
   numbers-many =
-      ap length (t .numbers-are) ∙ (length-rows 4 (λ n. numbersOf (recordOf points triangles marks (o .numbers) n)) (λ n. refl) (o .shells) ∙ mul-comm (o .shells) 4)
+      ap length (t .numbers-are) ∙ four-each (o .shells) (recordOf points triangles marks (o .numbers))
 
   pub volumes-many : length (take (o .shells) volumes) ≡ o .shells
   volumes-many = ap length (t .volumes-are) ∙ length-list (o .shells) (λ n. recordOf points triangles marks (o .numbers) n .volume)

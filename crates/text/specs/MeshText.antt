@@ -58,7 +58,8 @@ listsFit points edges marks triangles =
 unfoldable pub recordsFit : ℕ → ℕ → Bool
 recordsFit records volumes = eqb records (4 * volumes) && leb volumes mostPoints
 
--- so many bytes hold the text of any mesh of so many points, triangles and shells: a number and the byte that ends it take at most 21
+-- so many bytes hold the text of any mesh of so many points, triangles and shells: a letter and its tab take 2, a number and the byte that ends it at most 21, so a line of three
+-- numbers (`M`, `T`) at most 65 and one of five (`V`, `S`) at most 107
 abbrev pub longest : ℕ → ℕ → ℕ → ℕ
 longest points triangles shells = 65 + 107 * points + 65 * triangles + 107 * shells
 

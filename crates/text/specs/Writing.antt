@@ -46,7 +46,7 @@ written text room = cond (ltb (length room) (length text)) (outcome 3 0 room) (o
 abbrev pub refusalWritten : ℕ → ℕ → List ℕ → Outcome
 refusalWritten number at room = written (refusalText number at) room
 
--- so many bytes hold any refusal's line
+-- so many bytes hold any refusal's line: the letter and its tab, and two numbers of at most 21 bytes with the byte that ends each
 abbrev pub longestRefusal : ℕ
 longestRefusal = 44
 
