@@ -1,1 +1,2 @@
 pub mod Figures
+pub mod Examples

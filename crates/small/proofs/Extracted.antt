@@ -15,8 +15,8 @@ use Rattle.extract.specs.Promise.{Extracts}
 use Rattle.closed.specs.Left.{meshLeft, edgesLeft}
 use Rattle.closed.proofs.Granted.{Granted, left-granted, length-flat-triangles}
 use Rattle.closed.proofs.Passes.{extract-passes}
-use Rattle.text.specs.declared.small.Parsed.{Parsed}
-use Rattle.text.proofs.Checks.{passed}
+use Rattle.gridtext.specs.declared.Parsed.{Parsed}
+use Rattle.gridtext.proofs.Checks.{passed}
 use Rattle.small.specs.Sizes.{mostPoints, mostTriangles, mostOutput}
 use Rattle.small.specs.Answer.{gridEdges, extractedMesh}
 use Rattle.small.specs.Promise.{meshOf, SmallMesh, headIn, SmallGrid}

@@ -19,10 +19,10 @@ use Rattle.shells.specs.Numbering.{Numbering}
 use Rattle.shells.specs.Record.{recordOf}
 use Rattle.shells.specs.Promise.{Outcome, left, roomsFit, refusal, early, Lists, refused, crowded, granted}
 use Rattle.shells.proofs.Few.{no-more-than-points}
-use Rattle.text.specs.Writing.{outcome}
-use Rattle.text.specs.MeshText.{meshText, listsFit, recordsFit, Holds, meshWritten}
-use Rattle.text.proofs.Written.{written-read}
-use Rattle.text.proofs.MeshTexts.{mesh-written}
+use Rattle.writing.specs.Writing.{outcome}
+use Rattle.meshtext.specs.MeshText.{meshText, listsFit, recordsFit, Holds, meshWritten}
+use Rattle.writing.proofs.Fields.{written-read}
+use Rattle.meshtext.proofs.MeshTexts.{mesh-written}
 use Rattle.small.specs.Answer.{Prints}
 use Rattle.small.specs.Promise.{meshOf, SmallMesh}
 use Rattle.listing.proofs.Handed.{four-each}

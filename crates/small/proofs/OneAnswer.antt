@@ -13,12 +13,12 @@ use Rattle.shells.specs.Record.{recordOf}
 use Rattle.shells.proofs.OneNumbering.{one-numbering}
 use Rattle.closed.specs.Left.{Mesh}
 use Rattle.listing.specs.Listing.{numbersOf}
-use Rattle.text.specs.Grid.{samplesOf, granted, readGrid}
-use Rattle.text.specs.MeshText.{meshText}
-use Rattle.text.specs.GridText.{Small, gridText}
-use Rattle.text.specs.declared.small.Head.{Head}
-use Rattle.text.proofs.Checks.{passed}
-use Rattle.text.proofs.GridTexts.{grid-read, grid-taken}
+use Rattle.gridtext.specs.Grid.{samplesOf, granted, readGrid}
+use Rattle.meshtext.specs.MeshText.{meshText}
+use Rattle.gridtext.specs.GridText.{Small, gridText}
+use Rattle.gridtext.specs.declared.Head.{Head}
+use Rattle.gridtext.proofs.Checks.{passed}
+use Rattle.gridtext.proofs.GridTexts.{grid-read, grid-taken}
 use Rattle.small.specs.Answer.{smoothedMesh, gridEdges, Prints, Answers, printed, refused}
 use Rattle.small.specs.Promise.{headIn}
 

@@ -5,12 +5,12 @@ use Prim.Native.Nat.{ℕ, _*_, _≤_}
 use lib.ListN.{length, take, replicate}
 use Rattle.laws.proofs.Rooms.{laid-read}
 use Rattle.grid.specs.Limits.{mostSmall}
-use Rattle.text.specs.Writing.{refusalText}
-use Rattle.text.specs.Grid.{samplesOf, headNumber, granted, readGrid}
-use Rattle.text.specs.Promise.{left}
-use Rattle.text.specs.declared.small.Parsed.{Parsed}
-use Rattle.text.proofs.Checks.{passed, rows-few}
-use Rattle.text.proofs.GridTexts.{Taken, grid-taken}
+use Rattle.writing.specs.Writing.{refusalText}
+use Rattle.gridtext.specs.Grid.{samplesOf, headNumber, granted, readGrid}
+use Rattle.gridtext.specs.Promise.{left}
+use Rattle.gridtext.specs.declared.Parsed.{Parsed}
+use Rattle.gridtext.proofs.Checks.{passed, rows-few}
+use Rattle.gridtext.proofs.GridTexts.{Taken, grid-taken}
 use Rattle.small.specs.Answer.{smoothedMesh, gridEdges, Prints, parsed, Answers, printed, refused}
 use Rattle.small.specs.Promise.{headIn, SmallGrid}
 

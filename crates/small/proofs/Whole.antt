@@ -4,11 +4,11 @@ use mathlib.Core.List.{List}
 use Prim.Native.Nat.{ℕ}
 use lib.ListN.{take, replicate}
 use Rattle.grid.specs.Limits.{mostSmall}
-use Rattle.text.specs.Grid.{Outcome, granted, readGrid}
-use Rattle.text.specs.GridText.{Small, gridText}
-use Rattle.text.specs.Writing.{refusalText}
-use Rattle.text.specs.declared.small.Head.{Head}
-use Rattle.text.proofs.Enough.{enough-read}
+use Rattle.gridtext.specs.Grid.{Outcome, granted, readGrid}
+use Rattle.gridtext.specs.GridText.{Small, gridText}
+use Rattle.writing.specs.Writing.{refusalText}
+use Rattle.gridtext.specs.declared.Head.{Head}
+use Rattle.gridtext.proofs.Enough.{enough-read}
 use Rattle.small.specs.Sizes.{mostInput}
 use Rattle.small.specs.Answer.{smoothedMesh, gridEdges, Prints, parsed, Answers, printed, refused}
 use Rattle.small.proofs.OneAnswer.{grid-of-text, text-of-grid}

@@ -15,12 +15,12 @@ use Rattle.shells.specs.Numbering.{Numbering}
 use Rattle.shells.specs.Record.{recordOf}
 use Rattle.closed.specs.Left.{Mesh, smoothed}
 use Rattle.listing.specs.Listing.{numbersOf}
-use Rattle.text.specs.Writing.{refusalText}
-use Rattle.text.specs.MeshText.{meshText}
-use Rattle.text.specs.Grid.{readGrid}
-use Rattle.text.specs.GridText.{Small, sizeOf, gridText}
-use Rattle.text.specs.declared.small.Head.{Head}
-use Rattle.text.specs.declared.small.Parsed.{Parsed}
+use Rattle.writing.specs.Writing.{refusalText}
+use Rattle.meshtext.specs.MeshText.{meshText}
+use Rattle.gridtext.specs.Grid.{readGrid}
+use Rattle.gridtext.specs.GridText.{Small, sizeOf, gridText}
+use Rattle.gridtext.specs.declared.Head.{Head}
+use Rattle.gridtext.specs.declared.Parsed.{Parsed}
 
 module _ (h : Head) (samples : List ℕ) where
   -- extract

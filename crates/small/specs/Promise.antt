@@ -5,9 +5,9 @@ use Prim.Native.Nat.{ℕ, _/_, _≤_}
 use lib.ListN.{length}
 use Rattle.mesh.specs.Check.{meshNumber}
 use Rattle.closed.specs.Left.{Mesh}
-use Rattle.text.specs.Grid.{samplesOf, headNumber}
-use Rattle.text.specs.declared.small.Head.{Head}
-use Rattle.text.specs.declared.small.Parsed.{Parsed}
+use Rattle.gridtext.specs.Grid.{samplesOf, headNumber}
+use Rattle.gridtext.specs.declared.Head.{Head}
+use Rattle.gridtext.specs.declared.Parsed.{Parsed}
 use Rattle.small.specs.Sizes.{mostPoints, mostTriangles, mostOutput}
 
 abbrev pub meshOf : List ℕ → List ℕ → List ℕ → Mesh

@@ -1,8 +1,8 @@
 -- The greatest numbers of a small grid, of at most 512 samples: they size the program's rooms.
 use Prim.Native.Nat.{ℕ, _*_}
 use Rattle.grid.specs.Limits.{mostSmall}
-use Rattle.text.specs.Grid.{mostRead}
-use Rattle.text.specs.MeshText.{longest}
+use Rattle.gridtext.specs.Grid.{mostRead}
+use Rattle.meshtext.specs.MeshText.{longest}
 
 -- at most three grid edges leave a sample, so there are at most three points a sample, and no more shells than points
 abbrev pub mostPoints : ℕ

@@ -8,7 +8,7 @@ ghost use Rattle.small.specs.Answer.{gridEdges, smoothedMesh, Prints, An
 ghost use Rattle.small.specs.Promise.{meshOf, SmallMesh, headIn, SmallGrid};
 use crate::zeros;
 use grid::limits::MOST_SMALL;
-use text::Parsed;
+use gridtext::Parsed;
 
 // Lists the shells of a mesh and writes its text. Answers the text's length.
 fn write_listed(
@@ -37,7 +37,7 @@ fn write_listed(
         &mut work[..2 * v],
     );
     let shells = listed.shells;
-    let written = text::write_mesh(
+    let written = meshtext::write_mesh(
         points,
         edges,
         marks,
@@ -123,9 +123,9 @@ pub fn answer(input: &[u8], output: &mut [u8]) -> usize
     ensures text { λ r. ⌜ Answers (now (input .entry)) (take r (now (output .exit))) ⌝ }
 {
     let mut samples = [0u16; MOST_SMALL as usize];
-    let grid = text::read_grid(input, &mut samples);
+    let grid = gridtext::read_grid(input, &mut samples);
     if grid.number != 0 {
-        let refused = text::write_refusal(grid.number, grid.line, output);
+        let refused = writing::write_refusal(grid.number, grid.line, output);
         return refused.length;
     }
     let n = (grid.nx * (grid.ny * grid.nz)) as usize;

@@ -5,9 +5,9 @@ use native.Mathlib.Omega.{arith}
 use lib.ListN.{length}
 use lib.Seq.{length-take-le}
 use borrow.Author.Needs.{needs}
-use Rattle.text.specs.Writing.{refusalText}
-use Rattle.text.specs.Grid.{samplesOf}
-use Rattle.text.proofs.Written.{written-read}
+use Rattle.writing.specs.Writing.{refusalText}
+use Rattle.gridtext.specs.Grid.{samplesOf}
+use Rattle.writing.proofs.Fields.{written-read}
 use Rattle.small.specs.Promise.{headIn}
 use Rattle.small.proofs.Read.{refusal-answers, samples-few, rows-read, grid-small, grid-answers}
 use Rattle.small.proofs.answer.answer.Statement.{statement}

@@ -8,7 +8,7 @@ use borrow.Author.Needs.{needs}
 use Rattle.extract.specs.Outcome.{Rooms, Outcome}
 use Rattle.extract.specs.Promise.{rooms, left}
 use Rattle.closed.specs.Left.{meshLeft, edgesLeft, smoothed}
-use Rattle.text.proofs.Checks.{passed}
+use Rattle.gridtext.proofs.Checks.{passed}
 use Rattle.small.specs.Sizes.{mostPoints, mostTriangles}
 use Rattle.small.specs.Answer.{gridEdges, smoothedMesh, Prints}
 use Rattle.small.specs.Promise.{headIn}

@@ -1,0 +1,69 @@
+-- `gridtext::copy` meets its contract: copied as far as the places that were passed. Assumes nothing.
+use mathlib.Core.Path.{_≡_, refl, ap, _∙_}
+use Prim.Native.Nat.{_-_, _≤_, _<_}
+use native.Mathlib.Omega.{arith}
+use lib.ListN.{length, getD, take, set, length-set}
+use Rattle.laws.specs.Room.{laid}
+use Rattle.gridtext.proofs.Samples.{copy-begins, copy-next}
+use Rattle.gridtext.proofs.copy.Statement.{statement}
+use Rattle.gridtext.proofs.copy.Tie as tie
+
+abbrev Inv-loop : tie.InvT-loop
+Inv-loop count read written₀ i₀ written i = (i ≤ count) × (length written ≡ length written₀) × (written ≡ laid (take i read) written₀)
+
+abbrev μ-loop : tie.MeasureT-loop
+μ-loop count read written₀ i₀ written i = count - i
+
+loop-holds : tie.Need-loop-holds Inv-loop μ-loop
+loop-holds c = (omega arith, refl, copy-begins (c .args .read .now) (c .args .written .now))
+
+mul-written : tie.Need-mul-written Inv-loop μ-loop
+mul-written c = omega arith
+
+shared-slice-read-written : tie.Need-shared-slice-read-written Inv-loop μ-loop
+shared-slice-read-written c = omega arith
+
+mul-written-2 : tie.Need-mul-written-2 Inv-loop μ-loop
+mul-written-2 c = omega arith
+
+slice-write-written : tie.Need-slice-write-written Inv-loop μ-loop
+slice-write-written c = omega arith
+
+add-i : tie.Need-add-i Inv-loop μ-loop
+add-i c = omega arith
+
+loop-less : tie.Need-loop-less Inv-loop μ-loop
+loop-less c = omega arith
+
+loop-again : tie.Need-loop-again Inv-loop μ-loop
+loop-again c =
+    let l = c .before .before in
+    let a = l .before .args in
+    (omega arith, rw length-set (l .loop .inv .1), ap (λ w. set w (l .loop .i) (getD (a .read .now) (l .loop .i) 0)) (l .loop .inv .2) ∙ copy-next (a .read .now) (a .written .now) (l .loop .i) (omega arith) (omega arith))
+
+same-length : tie.Need-same-length Inv-loop μ-loop
+same-length c = c .before .loop .inv .1
+
+returns : tie.Need-returns Inv-loop μ-loop
+returns c =
+    let l = c .before in
+    let a = l .before .args in
+    let e : l .loop .i ≡ a .count = omega arith in
+    l .loop .inv .2 ∙ ap (λ n. laid (take n (a .read .now)) (a .written .now)) e
+
+pub copy-spec : {M : Type 1} → statement M
+copy-spec =
+    tie.close
+    (tie.spec
+    Inv-loop
+    μ-loop
+    loop-holds
+    mul-written
+    shared-slice-read-written
+    mul-written-2
+    slice-write-written
+    add-i
+    loop-less
+    loop-again
+    same-length
+    returns)

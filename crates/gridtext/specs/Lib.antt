@@ -1,0 +1,5 @@
+-- The text of a small grid (document 01, "The program for small grids"). Reading order: a grid's text read, with the refusals in order; the text of a grid; what the
+-- call promises.
+pub mod Grid
+pub mod GridText
+pub mod Promise

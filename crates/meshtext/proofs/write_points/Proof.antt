@@ -1,0 +1,94 @@
+-- `meshtext::write_points` meets its contract. Assumes nothing.
+use mathlib.Core.Path.{_≡_, refl, ap, sym, _∙_}
+use Prim.Native.Nat.{_+_, _-_, _≤_}
+use native.Mathlib.Omega.{arith}
+use lib.ListN.{length}
+use lib.Seq.{sets}
+use borrow.Author.Needs.{needs}
+use Rattle.lines.specs.Line.{lettered}
+use Rattle.meshtext.specs.MeshText.{pointNumbers, pointsText}
+use Rattle.writing.proofs.Fields.{lettered-length}
+use Rattle.meshtext.proofs.LinesWritten.{linesTo, lines-none, lines-length, lines-rise, lines-written}
+use Rattle.meshtext.proofs.write_points.Statement.{statement}
+use Rattle.meshtext.proofs.write_points.Tie as tie
+
+abbrev Inv-loop : tie.InvT-loop
+Inv-loop points edges marks v room₀ from at₀ i₀ room at i =
+    (i ≤ v) × (length room ≡ length room₀) × (at ≡ from + length (linesTo (λ i. lettered 86 (pointNumbers points edges marks i)) i))
+    × (room ≡ sets room₀ from (linesTo (λ i. lettered 86 (pointNumbers points edges marks i)) i))
+
+abbrev μ-loop : tie.MeasureT-loop
+μ-loop points edges marks v room₀ from at₀ i₀ room at i = v - i
+
+loop-holds : tie.Need-loop-holds Inv-loop μ-loop
+loop-holds c =
+    let a = c .before .before .before .before .args in
+    let z = lines-none (λ i. lettered 86 (pointNumbers (a .points .now) (a .edges .now) (a .marks .now) i)) in
+    (omega arith, refl, omega (arith, ap length z), sym (ap (sets (a .room .now) (a .from)) z))
+
+point-numbers-requires : tie.Need-point-numbers-requires Inv-loop μ-loop
+point-numbers-requires c κs = omega arith
+
+slice-aggregate-write-lettered : tie.Need-slice-aggregate-write-lettered Inv-loop μ-loop
+slice-aggregate-write-lettered c = search needs
+
+write-lettered-requires : tie.Need-write-lettered-requires Inv-loop μ-loop
+unfolding pointsText linesTo
+write-lettered-requires c κs =
+    let p = c .before .before in
+    let l = p .before .before in
+    let s = l .before .before .before .before .before in
+    let a = s .args in
+    let g = pointNumbers (a .points .now) (a .edges .now) (a .marks .now) in
+    rw (p .point-numbers .ensures)
+    (omega (arith, lettered-length 86 (g (l .loop .i)), lines-length (λ i. lettered 86 (g i)) (l .loop .i), lines-rise (λ i. lettered 86 (g i)) (l .loop .i + 1) (a .v) (omega arith), l .loop .inv .1, l .loop .inv .2, s .pre .1))
+
+add-i : tie.Need-add-i Inv-loop μ-loop
+add-i c = omega arith
+
+loop-less : tie.Need-loop-less Inv-loop μ-loop
+loop-less c = omega arith
+
+loop-again : tie.Need-loop-again Inv-loop μ-loop
+loop-again c =
+    let w = c .before .before in
+    let p = w .before .before .before in
+    let l = p .before .before in
+    let a = l .before .before .before .before .before .args in
+    let g = pointNumbers (a .points .now) (a .edges .now) (a .marks .now) in
+    let n = p .point-numbers .ensures in
+    let old = l .loop .room in (
+      omega arith,
+      w .write-lettered .kept .1 .1 .0 ∙ l .loop .inv .1,
+      omega (arith, w .write-lettered .ensures .0, ap (λ n. length (lettered 86 n)) n, lettered-length 86 (g (l .loop .i)), lines-length (λ i. lettered 86 (g i)) (l .loop .i), l .loop .inv .2),
+      lines-written (λ i. lettered 86 (g i)) (a .room .now) old (w .write-lettered .last .1 .1 .0) (a .from) (l .loop .at) (l .loop .i) (l .loop .inv .3) (l .loop .inv .2)
+          (w .write-lettered .ensures .1 ∙ ap (λ n. sets old (l .loop .at) (lettered 86 n)) n),
+    )
+
+same-length : tie.Need-same-length Inv-loop μ-loop
+same-length c = c .before .loop .inv .1
+
+returns : tie.Need-returns Inv-loop μ-loop
+unfolding pointsText linesTo
+returns c =
+    let l = c .before in
+    let a = l .before .before .before .before .before .args in
+    let g = pointNumbers (a .points .now) (a .edges .now) (a .marks .now) in
+    let e : l .loop .i ≡ a .v = omega arith in
+    (l .loop .inv .2 ∙ ap (λ k. a .from + length (linesTo (λ i. lettered 86 (g i)) k)) e, l .loop .inv .3 ∙ ap (λ k. sets (a .room .now) (a .from) (linesTo (λ i. lettered 86 (g i)) k)) e)
+
+pub write-points-spec : {M : Type 1} → statement M
+write-points-spec =
+    tie.close
+    (tie.spec
+    Inv-loop
+    μ-loop
+    loop-holds
+    point-numbers-requires
+    slice-aggregate-write-lettered
+    write-lettered-requires
+    add-i
+    loop-less
+    loop-again
+    same-length
+    returns)

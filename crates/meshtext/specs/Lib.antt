@@ -1,0 +1,2 @@
+-- The text of a mesh (document 01, "The program for small grids", output).
+pub mod MeshText

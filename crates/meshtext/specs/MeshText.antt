@@ -1,0 +1,75 @@
+-- The text of a mesh (document 01, "The program for small grids", output).
+use mathlib.Core.Path.{_≡_}
+use mathlib.Core.List.{List, [], _∷_, _++_}
+use mathlib.Core.Bool.{Bool, cond, not, _&&_}
+use Prim.Native.Nat.{ℕ, _+_, _*_, _/_, _%_, _≤_}
+use lib.Dec.{eqb, leb}
+use lib.ListN.{length, getD}
+use lib.IntN.{ℤ, pos}
+use Rattle.laws.specs.Range.{joinTo}
+use Rattle.laws.specs.Threes.{threeAt}
+use Rattle.grid.specs.Limits.{mostPoints, mostTriangles}
+use Rattle.lines.specs.Decimal.{signed}
+use Rattle.lines.specs.Line.{tab, lineFeed}
+use Rattle.lines.specs.Line.{fields, lettered}
+use Rattle.writing.specs.Writing.{Outcome, outcome, written}
+
+-- `V`: grid edge, smoothed x, y, z, mark
+abbrev pub pointNumbers : List ℕ → List ℕ → List ℕ → ℕ → List ℕ
+pointNumbers points edges marks i =
+    getD edges i 0 ∷ getD points (3 * i) 0 ∷ getD points (3 * i + 1) 0 ∷ getD points (3 * i + 2) 0 ∷ getD marks i 0 ∷ []
+
+unfoldable pub pointsText : List ℕ → List ℕ → List ℕ → ℕ → List ℕ
+pointsText points edges marks v = joinTo v (λ i. lettered 86 (pointNumbers points edges marks i))
+
+-- `T`: three points
+abbrev pub triangleNumbers : List ℕ → ℕ → List ℕ
+triangleNumbers triangles i = threeAt triangles (3 * i)
+
+unfoldable pub trianglesText : List ℕ → ℕ → List ℕ
+trianglesText triangles t = joinTo t (λ i. lettered 84 (triangleNumbers triangles i))
+
+-- `S`: the record of a shell: lowest point, points, triangles, touches, sixfold volume
+abbrev pub shellNumbers : List ℕ → ℕ → List ℕ
+shellNumbers records i = getD records (4 * i) 0 ∷ getD records (4 * i + 1) 0 ∷ getD records (4 * i + 2) 0 ∷ getD records (4 * i + 3) 0 ∷ []
+
+unfoldable pub shellText : List ℕ → ℤ → List ℕ
+shellText numbers volume = 83 ∷ tab ∷ (fields 1 numbers ++ (signed volume ++ lineFeed ∷ []))
+
+unfoldable pub shellsText : List ℕ → List ℤ → ℕ → List ℕ
+shellsText records volumes s = joinTo s (λ i. shellText (shellNumbers records i) (getD volumes i (pos 0)))
+
+-- the lines of a mesh: `M`: points, triangles, shells; then `V`, `T` and `S`
+unfoldable pub linesOf : List ℕ → List ℕ → List ℕ → List ℕ → List ℕ → List ℕ → List ℤ → List ℕ
+linesOf counts points edges marks triangles records volumes =
+    lettered 77 counts ++
+    (pointsText points edges marks (length marks) ++
+    (trianglesText triangles (length triangles / 3) ++ shellsText records volumes (length volumes)))
+
+abbrev pub meshText : List ℕ → List ℕ → List ℕ → List ℕ → List ℕ → List ℤ → List ℕ
+meshText points edges marks triangles records volumes =
+    linesOf (length marks ∷ length triangles / 3 ∷ length volumes ∷ []) points edges marks triangles records volumes
+
+-- 6: three coordinates, one edge number and one mark a point, triangles in threes, and not too many
+unfoldable pub listsFit : ℕ → ℕ → ℕ → ℕ → Bool
+listsFit points edges marks triangles =
+    eqb points (3 * marks) && (eqb edges marks && (eqb (triangles % 3) 0 && (leb marks mostPoints && leb (triangles / 3) mostTriangles)))
+
+-- 6: four numbers and one volume a shell, and no more shells than there may be points
+unfoldable pub recordsFit : ℕ → ℕ → Bool
+recordsFit records volumes = eqb records (4 * volumes) && leb volumes mostPoints
+
+-- so many bytes hold the text of any mesh of so many points, triangles and shells: a letter and its tab take 2, a number and the byte that ends it at most 21, so a line of three
+-- numbers (`M`, `T`) at most 65 and one of five (`V`, `S`) at most 107
+abbrev pub longest : ℕ → ℕ → ℕ → ℕ
+longest points triangles shells = 65 + 107 * points + 65 * triangles + 107 * shells
+
+unfoldable pub meshWritten : List ℕ → List ℕ → List ℕ → List ℕ → List ℕ → List ℤ → List ℕ → Outcome
+meshWritten points edges marks triangles records volumes room =
+    cond (not (listsFit (length points) (length edges) (length marks) (length triangles))) (outcome 6 0 room)
+    (cond (not (recordsFit (length records) (length volumes))) (outcome 6 0 room)
+    (written (meshText points edges marks triangles records volumes) room))
+
+-- a room that holds the longest text is not too short
+abbrev pub Holds : ℕ → ℕ → ℕ → ℕ → ℕ → Type 0
+Holds points triangles shells room number = longest points triangles shells ≤ room → number ≡ 3 → ⊥

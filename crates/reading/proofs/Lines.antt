@@ -1,0 +1,129 @@
+-- A line of numbers and a run of lines, read piece by piece.
+use mathlib.Core.Path.{_≡_, refl, ap, sym, _∙_}
+use mathlib.Core.List.{List, [], _∷_, _++_, append-assoc, append-nil}
+use mathlib.Core.Bool.{Bool, true, false}
+use Prim.Native.Nat.{ℕ, zero, suc, _+_, _*_, _-_, _≤_, _<_}
+use native.Mathlib.Nat.{sub-zero, mul-suc, mul-le-mul-left}
+use native.Mathlib.Numerals.{add-one}
+use native.Mathlib.Omega.{arith}
+use lib.ListN.{length, getD, take, drop, set, length-drop}
+use lib.Seq.{take-suc-set, drop-set-add, take-add}
+use Rattle.reading.specs.Reading.{Got, bad, got, after, readField, readRow, Rows, malformed, rows, ahead, lineThen, readRows}
+use Rattle.lines.specs.Line.{endOf}
+
+-- numbers read before a line goes on
+unfoldable pub before : List ℕ → Got (List ℕ) → Got (List ℕ)
+before ns read = after (λ ms rest. got (ns ++ ms) rest) read
+
+before-none : (read : Got (List ℕ)) → before [] read ≡ read
+unfolding before after
+before-none bad = refl
+before-none (got ns rest) = refl
+
+before-before : (ns ms : List ℕ) (read : Got (List ℕ)) → before ns (before ms read) ≡ before (ns ++ ms) read
+unfolding before after
+before-before ns ms bad = refl
+before-before ns ms (got ls rest) = rw append-assoc
+
+module _ (most : ℕ) (ns : List ℕ) where
+  row-ends : (bs : List ℕ) → before ns (readRow most 0 bs) ≡ got ns bs
+  unfolding before after readRow
+  row-ends bs = rw append-nil
+
+  row-fails : (k : ℕ) (bs : List ℕ) → readField most (endOf k) bs ≡ bad → before ns (readRow most (suc k) bs) ≡ bad
+  unfolding before after readRow
+  row-fails k bs e = rw e
+
+  row-first : (k n : ℕ) (bs rest : List ℕ) → readField most (endOf k) bs ≡ got n rest → readRow most (suc k) bs ≡ before (n ∷ []) (readRow most k rest)
+  unfolding before after readRow
+  row-first k n bs rest e = rw e
+
+  row-next : (k n : ℕ) (bs rest : List ℕ) → readField most (endOf k) bs ≡ got n rest → before ns (readRow most (suc k) bs) ≡ before (ns ++ (n ∷ [])) (readRow most k rest)
+  row-next k n bs rest e = ap (before ns) (row-first k n bs rest e) ∙ before-before ns (n ∷ []) (readRow most k rest)
+
+-- the same in a loop: it begins, ends, and has read i of so many numbers, with the byte that is to end the next
+pub row-begins : (most count : ℕ) (bs : List ℕ) → readRow most count bs ≡ before [] (readRow most (count - 0) bs)
+row-begins most count bs = rw sub-zero (sym (before-none (readRow most count bs)))
+
+pub row-done : (most count i : ℕ) (stands : ℕ → List ℕ) (bs : List ℕ) → i ≡ count → before (stands i) (readRow most (count - i) bs) ≡ got (stands count) bs
+row-done most count i stands bs q =
+    let e : count - count ≡ 0 = omega arith in
+    rw (q, e) (row-ends most (stands count) bs)
+
+module _ (most count i : ℕ) (ns bs : List ℕ) where
+  module _ (end : ℕ) (l : i < count) (q : end ≡ endOf (count - i - 1)) where
+    pub row-stops : readField most end bs ≡ bad → before ns (readRow most (count - i) bs) ≡ bad
+    row-stops h = let e : count - i ≡ suc (count - i - 1) = omega arith in rw e (row-fails most ns (count - i - 1) bs (rw q at h))
+
+    pub row-turn : (n : ℕ) (rest : List ℕ) → readField most end bs ≡ got n rest → before ns (readRow most (count - i) bs) ≡ before (ns ++ (n ∷ [])) (readRow most (count - (i + 1)) rest)
+    row-turn n rest h =
+        let e : count - i ≡ suc (count - i - 1) = omega arith in
+        let f : count - (i + 1) ≡ count - i - 1 = omega arith in
+        rw (e, f) (row-next most ns (count - i - 1) n bs rest (rw q at h))
+
+-- a number written behind those that stand in a room from a place on
+module _ (room : List ℕ) (base i v : ℕ) (l : base + i < length room) where
+  pub stands-next : take (i + 1) (drop base (set room (base + i) v)) ≡ take i (drop base room) ++ (v ∷ [])
+  stands-next = rw (add-one, drop-set-add base room i v) (take-suc-set (drop base room) i v (rw length-drop (omega arith)))
+
+-- rows read before the others
+ahead-none : (read : Rows) → ahead [] read ≡ read
+unfolding ahead
+ahead-none (malformed line) = refl
+ahead-none (rows ns) = refl
+
+ahead-ahead : (ns ms : List ℕ) (read : Rows) → ahead ns (ahead ms read) ≡ ahead (ns ++ ms) read
+unfolding ahead
+ahead-ahead ns ms (malformed line) = refl
+ahead-ahead ns ms (rows ls) = rw append-assoc
+
+module _ (most width k line : ℕ) (bs : List ℕ) where
+  first-stops : readRow most width bs ≡ bad → readRows most width (suc k) line bs ≡ malformed line
+  unfolding readRows lineThen
+  first-stops e = rw e
+
+  first-read : (ns rest : List ℕ) → readRow most width bs ≡ got ns rest → readRows most width (suc k) line bs ≡ ahead ns (readRows most width k (line + 1) rest)
+  unfolding readRows lineThen
+  first-read ns rest e = rw e
+
+-- the same in a loop that has read i of so many lines, of which the first is line 2
+pub rows-begin : (most width count : ℕ) (bs : List ℕ) → readRows most width count 2 bs ≡ ahead [] (readRows most width (count - 0) 2 bs)
+rows-begin most width count bs = rw sub-zero (sym (ahead-none (readRows most width count 2 bs)))
+
+module _ (most width count i : ℕ) (ns bs : List ℕ) where
+  module _ (l : i < count) where
+    pub rows-stop : readRow most width bs ≡ bad → ahead ns (readRows most width (count - i) (i + 2) bs) ≡ malformed (i + 2)
+    unfolding ahead
+    rows-stop h =
+        let e : count - i ≡ suc (count - i - 1) = omega arith in
+        rw (e, first-stops most width (count - i - 1) (i + 2) bs h)
+
+    pub rows-turn : (ms rest : List ℕ) → readRow most width bs ≡ got ms rest → ahead ns (readRows most width (count - i) (i + 2) bs) ≡ ahead (ns ++ ms) (readRows most width (count - (i + 1)) (i + 1 + 2) rest)
+    rows-turn ms rest h =
+        let e : count - i ≡ suc (count - i - 1) = omega arith in
+        let f : count - (i + 1) ≡ count - i - 1 = omega arith in
+        let g : i + 1 + 2 ≡ i + 2 + 1 = omega arith in
+        rw (e, f, g, first-read most width (count - i - 1) (i + 2) bs ms rest h) (ahead-ahead ns ms (readRows most width (count - i - 1) (i + 2 + 1) rest))
+
+  pub rows-over : i ≡ count → (b : ℕ) (rest : List ℕ) → bs ≡ b ∷ rest → ahead ns (readRows most width (count - i) (i + 2) bs) ≡ malformed (i + 2)
+  unfolding ahead readRows
+  rows-over q b rest h =
+      let e : count - i ≡ 0 = omega arith in
+      rw (e, h)
+
+  pub rows-done : i ≡ count → bs ≡ [] → ahead ns (readRows most width (count - i) (i + 2) bs) ≡ rows ns
+  unfolding ahead readRows
+  rows-done q h =
+      let e : count - i ≡ 0 = omega arith in
+      rw (e, h, append-nil)
+
+-- the next row's place in a room of rows
+module _ (width count base i : ℕ) (q : base ≡ width * i) where
+  pub row-fits : i < count → base + width ≤ width * count
+  row-fits l = let e : base + width ≡ width * suc i = rw (q, mul-suc) in rw e (mul-le-mul-left width l)
+
+  pub row-after : base + width ≡ width * (i + 1)
+  row-after = rw (q, add-one, mul-suc)
+
+pub rows-joined : (old room : List ℕ) (base width : ℕ) → take base room ≡ take base old → take (base + width) room ≡ take base old ++ take width (drop base room)
+rows-joined old room base width e = take-add base width room ∙ rw e

@@ -1,0 +1,67 @@
+-- Pieces read from the front of a text.
+use mathlib.Core.List.{List, [], _∷_, _++_}
+use mathlib.Core.Bool.{Bool, cond}
+use Prim.Native.Nat.{ℕ, zero, suc, _+_, _*_, _-_}
+use lib.Dec.{eqb, leb}
+use Rattle.lines.specs.Decimal.{digit, isDigit}
+use Rattle.lines.specs.Line.{endOf}
+
+-- what the text starts with, and the rest of it; or the text starts otherwise
+pub data Got (A : Type 0) : Type 0 where
+  bad : Got A
+  got : A → List ℕ → Got A
+
+-- one piece and then another, which may depend on the first
+unfoldable pub after : {A B : Type 0} → (A → List ℕ → Got B) → Got A → Got B
+after next bad = bad
+after next (got a rest) = next a rest
+
+-- n with as many further digits as stand there, while it is at most `most`
+unfoldable pub digitsOn : ℕ → ℕ → List ℕ → Got ℕ
+digitsOn most n [] = got n []
+digitsOn most n (b ∷ bs) =
+    cond (isDigit b)
+    (cond (leb (10 * n + (b - digit 0)) most) (digitsOn most (10 * n + (b - digit 0)) bs) bad)
+    (got n (b ∷ bs))
+
+-- a number from 0 to `most`: `0`, or digits of which the first is not `0`
+unfoldable pub readNumber : ℕ → List ℕ → Got ℕ
+readNumber most [] = bad
+readNumber most (b ∷ bs) = cond (eqb b (digit 0)) (got 0 bs) (cond (isDigit b) (digitsOn most (b - digit 0) bs) bad)
+
+-- a number and the byte that ends it
+unfoldable pub endedBy : ℕ → ℕ → List ℕ → Got ℕ
+endedBy end n [] = bad
+endedBy end n (b ∷ rest) = cond (eqb b end) (got n rest) bad
+
+unfoldable pub readField : ℕ → ℕ → List ℕ → Got ℕ
+readField most end bs = after (endedBy end) (readNumber most bs)
+
+-- the largest number of a grid's text
+abbrev pub mostNumber : ℕ
+mostNumber = 65535
+
+-- a line, or what is left of it, of so many numbers
+unfoldable pub readRow : ℕ → ℕ → List ℕ → Got (List ℕ)
+readRow most zero bs = got [] bs
+readRow most (suc k) bs =
+    after (λ n rest. after (λ ns rest. got (n ∷ ns) rest) (readRow most k rest)) (readField most (endOf k) bs)
+
+-- lines of so many numbers to the end of the text: their numbers, or the number of the first line that is malformed. After the last line,
+-- bytes are a malformed line; before it, the end of the text is
+pub data Rows : Type 0 where
+  malformed : ℕ → Rows
+  rows : List ℕ → Rows
+
+unfoldable pub ahead : List ℕ → Rows → Rows
+ahead ns (malformed line) = malformed line
+ahead ns (rows ms) = rows (ns ++ ms)
+
+unfoldable pub lineThen : ℕ → (List ℕ → Rows) → Got (List ℕ) → Rows
+lineThen line others bad = malformed line
+lineThen line others (got ns rest) = ahead ns (others rest)
+
+unfoldable pub readRows : ℕ → ℕ → ℕ → ℕ → List ℕ → Rows
+readRows most width zero line [] = rows []
+readRows most width zero line (b ∷ bs) = malformed line
+readRows most width (suc k) line bs = lineThen line (readRows most width k (line + 1)) (readRow most width bs)
