@@ -21,16 +21,17 @@ use Rattle.mesh.specs.Mesh.{triangleCount, triangleAt, trianglesOf}
 use Rattle.mesh.specs.Check.{trianglesFit, allWithin}
 use Rattle.extract.specs.Outcome.{Rooms, Outcome as Extracted}
 use Rattle.extract.specs.Promise.{Extracts}
-use Rattle.shells.specs.declared.Shell.{Shell}
-use Rattle.shells.specs.Numbering.{numberOf, Numbering}
-use Rattle.shells.specs.Record.{anyOf, pointsUnder, recordFrom, recordOf}
-use Rattle.shells.specs.Promise.{Outcome, Lists, refused, crowded, granted, recordsAfter, Shells}
+use Rattle.records.specs.declared.Shell.{Shell}
+use Rattle.numbering.specs.Numbering.{numberOf, Numbering}
+use Rattle.records.specs.Record.{anyOf, pointsUnder, recordFrom, recordOf}
+use Rattle.numbering.specs.Lists.{Outcome, Lists, refused, crowded, granted}
+use Rattle.shells.specs.Promise.{recordsAfter, Shells}
 use Rattle.mesh.proofs.Places.{within-any}
 use Rattle.mesh.proofs.Passed.{corners}
-use Rattle.shells.proofs.Sound.{passed}
-use Rattle.shells.proofs.Leading.{led-first, led-second}
-use Rattle.shells.proofs.Lows.{by-lowest, lows-rise}
-use Rattle.shells.proofs.Totals.{all-triangles}
+use Rattle.numbering.proofs.Sound.{passed}
+use Rattle.sets.proofs.Leading.{led-first, led-second}
+use Rattle.records.proofs.Lows.{by-lowest, lows-rise}
+use Rattle.records.proofs.Totals.{all-triangles}
 use Rattle.closed.specs.Left.{Mesh, meshLeft, smoothed}
 use Rattle.closed.specs.Shell.{SidesStay, Unmarked, trianglesIn, Closed}
 use Rattle.closed.specs.Listed.{inShell, Right}

@@ -8,9 +8,9 @@ use lib.Dec.{eqb}
 use lib.ListN.{length}
 use Rattle.laws.specs.Range.{sumTo}
 use Rattle.mesh.specs.Mesh.{triangleCount, triangleAt, trianglesOf}
-use Rattle.shells.specs.declared.Shell.{Shell}
-use Rattle.shells.specs.Led.{Led}
-use Rattle.shells.specs.Numbering.{numberOf}
+use Rattle.records.specs.declared.Shell.{Shell}
+use Rattle.sets.specs.Led.{Led}
+use Rattle.numbering.specs.Numbering.{numberOf}
 use Rattle.closed.specs.Left.{Mesh}
 
 -- the points of shell n, by the list of shell numbers

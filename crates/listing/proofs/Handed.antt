@@ -16,10 +16,11 @@ use Rattle.laws.proofs.Rooms.{length-laid}
 use Rattle.laws.proofs.Rows.{length-rows}
 use Rattle.laws.proofs.Values.{laid-more, laid-at, list-cong, length-list}
 use Rattle.laws.proofs.Writes.{sets-append, sets-front}
-use Rattle.shells.specs.declared.Shell.{Shell}
-use Rattle.shells.specs.Grown.{none}
-use Rattle.shells.specs.Record.{recordOf}
-use Rattle.shells.specs.Promise.{Outcome, Lists, Shells, recordsAfter, refused, crowded, granted}
+use Rattle.records.specs.declared.Shell.{Shell}
+use Rattle.records.specs.Grown.{none}
+use Rattle.records.specs.Record.{recordOf}
+use Rattle.numbering.specs.Lists.{Outcome, Lists, refused, crowded, granted}
+use Rattle.shells.specs.Promise.{Shells, recordsAfter}
 use Rattle.listing.specs.Listing.{mostListed, numbersOf, numbersHanded, volumesHanded, Listing}
 
 -- four numbers a record

@@ -7,9 +7,9 @@ use Rattle.laws.specs.Range.{joinTo}
 use Rattle.laws.specs.Room.{laid}
 use Rattle.laws.specs.Values.{listTo}
 use Rattle.grid.specs.Limits.{mostSmall}
-use Rattle.shells.specs.declared.Shell.{Shell}
-use Rattle.shells.specs.Record.{recordOf}
-use Rattle.shells.specs.Promise.{Outcome, Lists}
+use Rattle.records.specs.declared.Shell.{Shell}
+use Rattle.records.specs.Record.{recordOf}
+use Rattle.numbering.specs.Lists.{Outcome, Lists}
 
 -- a small mesh has at most three points a sample, and at most as many shells as points
 abbrev pub mostListed : ℕ

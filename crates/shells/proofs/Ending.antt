@@ -8,11 +8,12 @@ use lib.Dec.{T, eqb}
 use lib.ListN.{length}
 use borrow.Author.Tests.{eq-eqb, ne-eqb, eqb-true}
 use Rattle.mesh.specs.Mesh.{trianglesOf}
-use Rattle.shells.specs.declared.Shell.{Shell}
-use Rattle.shells.specs.Numbering.{Numbering}
-use Rattle.shells.specs.Promise.{left, Lists, refused, crowded, granted, recordsAfter, Shells}
-use Rattle.shells.specs.Grown.{filled, FillFits}
-use Rattle.shells.proofs.Sound.{Passed, passed}
+use Rattle.records.specs.declared.Shell.{Shell}
+use Rattle.numbering.specs.Numbering.{Numbering}
+use Rattle.numbering.specs.Lists.{left, Lists, refused, crowded, granted}
+use Rattle.shells.specs.Promise.{recordsAfter, Shells}
+use Rattle.shells.specs.Filled.{filled, FillFits}
+use Rattle.numbering.proofs.Sound.{Passed, passed}
 use Rattle.shells.proofs.Made.{fill-fits, made}
 
 -- the answer's number is tested

@@ -6,12 +6,13 @@ use native.Mathlib.Omega.{arith}
 use lib.ListN.{length}
 use Rattle.grid.specs.Limits.{mostPoints}
 use Rattle.mesh.specs.Mesh.{trianglesOf}
-use Rattle.shells.specs.declared.Shell.{Shell}
-use Rattle.shells.specs.Numbering.{Numbering}
-use Rattle.shells.specs.Record.{recordOf}
-use Rattle.shells.specs.Promise.{left, Lists, refused, crowded, granted, Shells}
-use Rattle.shells.proofs.Sound.{passed}
-use Rattle.shells.proofs.Lows.{by-lowest, lows-rise}
+use Rattle.records.specs.declared.Shell.{Shell}
+use Rattle.numbering.specs.Numbering.{Numbering}
+use Rattle.records.specs.Record.{recordOf}
+use Rattle.numbering.specs.Lists.{left, Lists, refused, crowded, granted}
+use Rattle.shells.specs.Promise.{Shells}
+use Rattle.numbering.proofs.Sound.{passed}
+use Rattle.records.proofs.Lows.{by-lowest, lows-rise}
 
 module _ (points triangles marks found : List ℕ) where
   low-at-least : (shells : ℕ) → Numbering (trianglesOf triangles) (length marks) found shells → (n : ℕ) → n < shells → n ≤ recordOf points triangles marks found n .low

@@ -6,7 +6,7 @@ use lib.IntN.{pos}
 use lib.ListN.{replicate}
 use Rattle.laws.specs.Range.{joinTo, keepTo}
 use Rattle.laws.specs.Signed.{sumOfℤ}
-use Rattle.shells.specs.Record.{anyOf, diagonals, determinant, sixfold, pointsUnder, namesUnder, trianglesUnder, recordFrom, recordOf}
+use Rattle.records.specs.Record.{anyOf, diagonals, determinant, sixfold, pointsUnder, namesUnder, trianglesUnder, recordFrom, recordOf}
 
 abbrev octahedronPoints : List ℕ
 octahedronPoints =

@@ -5,10 +5,11 @@ use Prim.Native.Nat.{ℕ, zero, suc, _+_}
 use native.Mathlib.Numerals.{add-one}
 use lib.ListN.{length, getD, set, length-set}
 use Rattle.mesh.specs.Mesh.{triangleAt}
-use Rattle.shells.specs.declared.Shell.{Shell}
-use Rattle.shells.specs.Numbering.{numberOf}
-use Rattle.shells.specs.Record.{sixfold}
-use Rattle.shells.specs.Grown.{none, withPoint, withTriangle, changed, emptied, pointsAdded, trianglesAdded}
+use Rattle.records.specs.declared.Shell.{Shell}
+use Rattle.numbering.specs.Numbering.{numberOf}
+use Rattle.records.specs.Record.{sixfold}
+use Rattle.records.specs.Grown.{none, withPoint, withTriangle}
+use Rattle.shells.specs.Filled.{changed, emptied, pointsAdded, trianglesAdded}
 
 pub length-emptied : (n : ℕ) (ys : List Shell) → length (emptied n ys) ≡ length ys
 length-emptied zero ys = refl

@@ -1,26 +1,10 @@
--- Reading order. What checks show; sides that lead; roots and sets; sets made of triangles; their ranks are the numbers of the shells.
-pub mod Sound
-pub mod Leading
-pub mod Roots
-pub mod Linked
-pub mod Uniting
-pub mod Numbered
-pub mod Listing
--- The description allows one numbering, so the promise allows one outcome; every point and triangle is counted once; document 01's figures.
-pub mod OneNumbering
+-- The promise allows one outcome; there are no more shells than points; document 01's figures.
 pub mod OneOutcome
-pub mod OneNumber
-pub mod Totals
-pub mod Lows
 pub mod Few
 pub mod Figures
--- How large volumes are; records that grow become those of the shells; how the call ends.
-pub mod Sizes
-pub mod Making
+-- Records that grow become those of the shells; how the call ends.
+pub mod Growing
 pub mod Made
 pub mod Ending
-pub mod Growing
--- Walks by hand over a lent slice of structs.
-pub mod Walk
-pub mod Slices
+-- The walks over the lent records.
 pub mod Records

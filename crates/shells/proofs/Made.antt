@@ -18,14 +18,15 @@ use Rattle.laws.proofs.Rooms.{length-laid}
 use Rattle.laws.proofs.Values.{length-list, laid-none, laid-more, laid-at, laid-change, list-cong}
 use Rattle.mesh.specs.Mesh.{triangleCount, triangleAt, trianglesOf}
 use Rattle.mesh.specs.Check.{trianglesFit}
-use Rattle.shells.specs.declared.Shell.{Shell}
-use Rattle.shells.specs.Numbering.{numberOf, Numbering}
-use Rattle.shells.specs.Record.{sixfold, pointsUnder, namesUnder, trianglesUnder, recordFrom, recordOf}
-use Rattle.shells.specs.Grown.{none, withPoint, withTriangle, PointFits, TriangleFits, changed, emptied, pointsAdded, trianglesAdded, filled, PointTurn, TriangleTurn, FillFits}
+use Rattle.records.specs.declared.Shell.{Shell}
+use Rattle.numbering.specs.Numbering.{numberOf, Numbering}
+use Rattle.records.specs.Record.{sixfold, pointsUnder, namesUnder, trianglesUnder, recordFrom, recordOf}
+use Rattle.records.specs.Grown.{none, withPoint, withTriangle, PointFits, TriangleFits}
+use Rattle.shells.specs.Filled.{changed, emptied, pointsAdded, trianglesAdded, filled, PointTurn, TriangleTurn, FillFits}
 use Rattle.mesh.proofs.Passed.{corners}
-use Rattle.shells.proofs.Sound.{Passed}
-use Rattle.shells.proofs.OneNumber.{one-number}
-use Rattle.shells.proofs.Making.{with-point, with-triangle, no-record, point-fits, triangle-fits}
+use Rattle.numbering.proofs.Sound.{Passed}
+use Rattle.records.proofs.OneNumber.{one-number}
+use Rattle.records.proofs.Making.{with-point, with-triangle, no-record, point-fits, triangle-fits}
 
 keep-suc : (n : ℕ) (p : ℕ → Bool) → keepTo (suc n) p ≡ keepTo n p ++ cond (p n) (n ∷ []) []
 unfolding keepTo joinTo

@@ -17,14 +17,14 @@ use types.Kit.{Given}
 use denote.RattleType.{RattleType}
 use denote.Laws.{Is, Makes}
 use denote.Steps.{only}
-use Rattle.shells.specs.declared.Shell.{Shell}
-use Rattle.shells.specs.Grown.{none}
-use Rattle.shells.proofs.Shell as T
-use Rattle.shells.proofs.Shell.Laws as T′
-use Rattle.shells.proofs.Listed as L
-use Rattle.shells.proofs.Listed.Laws as L′
-use Rattle.shells.proofs.Slices as S
-use Rattle.shells.proofs.Slices.{Elem, struct-elem}
+use Rattle.records.specs.declared.Shell.{Shell}
+use Rattle.records.specs.Grown.{none}
+use Rattle.records.proofs.Shell as T
+use Rattle.records.proofs.Shell.Laws as T′
+use Rattle.numbering.proofs.Listed as L
+use Rattle.numbering.proofs.Listed.Laws as L′
+use Rattle.walks.proofs.Slices as S
+use Rattle.walks.proofs.Slices.{Elem, struct-elem}
 
 abbrev pub E : Elem
 E = struct-elem T.the-type T′.the-laws T′.the-plain none

@@ -1,62 +1,22 @@
--- What a call leaves behind, and what it promises of that (document 01, "Shells" and "Numbers that refuse").
+-- What a call on the shells promises: the shell numbers of all points, and one record a shell (document 01, "Shells").
 use mathlib.Core.Path.{_≡_}
 use mathlib.Core.List.{List}
-use mathlib.Core.Bool.{Bool, cond, not, _&&_}
-use Prim.Native.Nat.{ℕ, _*_, _<_, _≤_}
+use mathlib.Core.Bool.{cond}
+use Prim.Native.Nat.{ℕ}
 use lib.Dec.{eqb}
-use lib.ListN.{length, replicate}
+use lib.ListN.{length}
 use Rattle.laws.specs.Room.{laid}
 use Rattle.laws.specs.Values.{listTo}
-use Rattle.mesh.specs.Check.{meshNumber}
-use Rattle.mesh.specs.Mesh.{trianglesOf}
-use Rattle.shells.specs.declared.Shell.{Shell}
-use Rattle.shells.specs.Numbering.{Numbering}
-use Rattle.shells.specs.Record.{recordOf}
-
--- the number and the count that are answered, and the rooms of numbers after the call
-pub record Outcome : Type 0 where
-  pub number : ℕ
-  pub shells : ℕ
-  pub numbers : List ℕ
-  pub work : List ℕ
-
-abbrev pub left : ℕ → ℕ → List ℕ → List ℕ → Outcome
-left number shells numbers work = record { number = number; shells = shells; numbers = numbers; work = work }
-
--- 3: the list of shell numbers is V long and the work room 2V
-unfoldable pub roomsFit : ℕ → ℕ → ℕ → Bool
-roomsFit v numbers work = eqb numbers v && eqb work (2 * v)
-
--- the first of 6, 7, 8, 9, 3 that holds, or 0
-unfoldable pub refusal : List ℕ → List ℕ → List ℕ → ℕ → ℕ → ℕ
-refusal points triangles marks numbers work =
-    let mesh = meshNumber points triangles marks in
-    cond (not (eqb mesh 0)) mesh (cond (not (roomsFit (length marks) numbers work)) 3 0)
+use Rattle.records.specs.declared.Shell.{Shell}
+use Rattle.numbering.specs.Lists.{Outcome, Lists}
+use Rattle.records.specs.Record.{recordOf}
 
 module _ (points triangles marks : List ℕ) where
-  -- the refusal that these rooms meet
-  abbrev pub early : List ℕ → List ℕ → ℕ
-  early numbers work = refusal points triangles marks (length numbers) (length work)
-
-  -- what may be left in the rooms of numbers, where so many records are lent
-  pub data Lists (records : ℕ) (numbers work : List ℕ) (o : Outcome) : Type 0 where
-    -- 6, 7, 8, 9 and 3 leave all rooms
-    refused : (early numbers work ≡ 0 → ⊥)
-        → o ≡ left (early numbers work) 0 numbers work → Lists records numbers work o
-    -- 11: there are more shells than records; the work room is made zero
-    crowded : early numbers work ≡ 0 → (found : List ℕ) (shells : ℕ)
-        → Numbering (trianglesOf triangles) (length marks) found shells → records < shells
-        → o ≡ left 11 0 numbers (replicate (length work) 0) → Lists records numbers work o
-    -- granted: the shell numbers of all points; the work room is made zero
-    granted : early numbers work ≡ 0 → (found : List ℕ) (shells : ℕ)
-        → Numbering (trianglesOf triangles) (length marks) found shells → shells ≤ records
-        → o ≡ left 0 shells found (replicate (length work) 0) → Lists records numbers work o
-
   -- the records after the call: a granted call lays one a shell over the front of the room, and records past the last stay
   unfoldable pub recordsAfter : Outcome → List Shell → List Shell
   recordsAfter o room = cond (eqb (o .number) 0) (laid (listTo (o .shells) (recordOf points triangles marks (o .numbers))) room) room
 
   -- a call on these rooms may leave this behind
   pub record Shells (numbers work : List ℕ) (room : List Shell) (o : Outcome) (after : List Shell) : Type 0 where
-    pub lists : Lists (length room) numbers work o
+    pub lists : Lists points triangles marks (length room) numbers work o
     pub records : after ≡ recordsAfter o room

@@ -9,8 +9,8 @@ use Rattle.laws.proofs.Rooms.{laid-read}
 use Rattle.laws.specs.Values.{listTo}
 use Rattle.grid.specs.Limits.{mostSmall}
 use Rattle.mesh.specs.Mesh.{trianglesOf}
-use Rattle.shells.specs.Record.{recordOf}
-use Rattle.shells.proofs.OneNumbering.{one-numbering}
+use Rattle.records.specs.Record.{recordOf}
+use Rattle.numbering.proofs.OneNumbering.{one-numbering}
 use Rattle.closed.specs.Left.{Mesh}
 use Rattle.listing.specs.Listing.{numbersOf}
 use Rattle.gridtext.specs.Grid.{samplesOf, granted, readGrid}

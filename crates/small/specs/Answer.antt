@@ -11,8 +11,8 @@ use Rattle.grid.specs.Grid.{axes, isAboveGrey, mark}
 use Rattle.grid.specs.Point.{pointEdges, place}
 use Rattle.grid.specs.Mesh.{mesh}
 use Rattle.mesh.specs.Mesh.{trianglesOf}
-use Rattle.shells.specs.Numbering.{Numbering}
-use Rattle.shells.specs.Record.{recordOf}
+use Rattle.numbering.specs.Numbering.{Numbering}
+use Rattle.records.specs.Record.{recordOf}
 use Rattle.closed.specs.Left.{Mesh, smoothed}
 use Rattle.listing.specs.Listing.{numbersOf}
 use Rattle.writing.specs.Writing.{refusalText}

@@ -3,10 +3,11 @@ ghost use Rattle.cube.specs.Promise.{Counted, EdgeRead};
 ghost use Rattle.extract.specs.Promise.{rooms, left, Extracts};
 ghost use Rattle.smooth.specs.Promise.{Smooths, Shows};
 ghost use Rattle.curvature.specs.Promise.{left as curvesLeft, Curves, Tells};
-ghost use Rattle.shells.specs.Promise.{left as shellsLeft, Shells};
+ghost use Rattle.numbering.specs.Lists.{left as shellsLeft};
+ghost use Rattle.shells.specs.Promise.{Shells};
 ghost use mathlib.Core.List.{[], _∷_};
 use curvature::Reading;
-use shells::Shell;
+use records::Shell;
 
 // How many triangles a case has: 0 to 5.
 #[no_mangle]

@@ -1,17 +1,17 @@
 -- `listing::hand_on` meets its contract: a walk of its MIR, by hand, with a loop. Each turn lends `hand` both rooms, and has them back with one more record handed on.
 -- Assumes nothing.
-use Rattle.shells.proofs.Walk.{_≡_, refl, _∙_, ap, ℕ, _+_, _-_, _<_, _≤_, _^_, zero-le, arith, le-antisymm, WellFounded, InvImage·wf, Nat·lt-wfRel, List, [], _∷_, length, set, getD, Holds, ltb, ltb→lt, nltb→le, lit<, URA, fullShare, named, erased, imm, mut, w32, w64, tyInt, tyBool, tyUnit, tyRef, Val, vunit, vint, SProp, ent, id⊢, Lft, Share, GName, Fml, ftrue, fat, froom, fdies, flft, Memory, Routine, Heap, Env, Out, Calls, Loops, WpFn, Tables, Wp, afterSeq, afterBlock, atReturn, afterTurn, Atoms, Fun, fact, givenOf, tables, tablesOf, Given, Item, ‵, raw, _⊛_, ⋆, some, later, runs, Sq, anyQ, atRet, _$_, _∵_, !, qed, by, move, keep, drop, use1, use2, split, join, pick, rewrite, fsplit, fjoin, feqL, feqI, suffices, frame, await, done, look, init, store, forget, stop, hop, fld, from, load, lit, unit-lit, of-opd, bin, addr, and-then, no-more, assigns, assigns-last, land, first, skips, jumps, blocks, branches, exec, Below, again, loops, returns, enter, alloc1, alloc0, params1, pass1, pass0, free1, free0, agg, whole, sub, look-in, FmC, fmOf, WpFn-mono, owns, Is, shows, uint-makes, uint-vals, uint-tells, nothing-lawful, u32, usize, unit, RefT, sliceTy, sliceVal, MutSlice, ShrSlice, Room, slice-vals, mut-slice-tells, shr-slice-tells, shr-slice-copy, owned, peeks, heard, nothing, onEntry, Meets, tripleOf, Contract, Triple, calls-at, ensured, lasts, entered, cited, says, needs, Stays, stay-none, stay-slice, stay-none-slice, walkOf, goes-none, goes-slice, goes-none-slice, Walks, ends-at, walked, walk-meets, yes, plain, after}
+use Rattle.walks.proofs.Walk.{_≡_, refl, _∙_, ap, ℕ, _+_, _-_, _<_, _≤_, _^_, zero-le, arith, le-antisymm, WellFounded, InvImage·wf, Nat·lt-wfRel, List, [], _∷_, length, set, getD, Holds, ltb, ltb→lt, nltb→le, lit<, URA, fullShare, named, erased, imm, mut, w32, w64, tyInt, tyBool, tyUnit, tyRef, Val, vunit, vint, SProp, ent, id⊢, Lft, Share, GName, Fml, ftrue, fat, froom, fdies, flft, Memory, Routine, Heap, Env, Out, Calls, Loops, WpFn, Tables, Wp, afterSeq, afterBlock, atReturn, afterTurn, Atoms, Fun, fact, givenOf, tables, tablesOf, Given, Item, ‵, raw, _⊛_, ⋆, some, later, runs, Sq, anyQ, atRet, _$_, _∵_, !, qed, by, move, keep, drop, use1, use2, split, join, pick, rewrite, fsplit, fjoin, feqL, feqI, suffices, frame, await, done, look, init, store, forget, stop, hop, fld, from, load, lit, unit-lit, of-opd, bin, addr, and-then, no-more, assigns, assigns-last, land, first, skips, jumps, blocks, branches, exec, Below, again, loops, returns, enter, alloc1, alloc0, params1, pass1, pass0, free1, free0, agg, whole, sub, look-in, FmC, fmOf, WpFn-mono, owns, Is, shows, uint-makes, uint-vals, uint-tells, nothing-lawful, u32, usize, unit, RefT, sliceTy, sliceVal, MutSlice, ShrSlice, Room, slice-vals, mut-slice-tells, shr-slice-tells, shr-slice-copy, owned, peeks, heard, nothing, onEntry, Meets, tripleOf, Contract, Triple, calls-at, ensured, lasts, entered, cited, says, needs, Stays, stay-none, stay-slice, stay-none-slice, walkOf, goes-none, goes-slice, goes-none-slice, Walks, ends-at, walked, walk-meets, yes, plain, after}
 use Prim.Native.Nat.{_*_}
 use lib.IntN.{ℤ}
 use lib.Seq.{sets}
 use denote.Builtin.{i64}
-use Rattle.shells.proofs.Slices.{uint-elem, Mut as MutOf, ref as refOf, lends, comes}
+use Rattle.walks.proofs.Slices.{uint-elem, Mut as MutOf, ref as refOf, lends, comes}
 use Rattle.shells.proofs.Records.{R}
-use Rattle.shells.specs.declared.Shell.{Shell}
-use Rattle.shells.specs.Grown.{none}
+use Rattle.records.specs.declared.Shell.{Shell}
+use Rattle.records.specs.Grown.{none}
 use Rattle.listing.specs.Listing.{numbersOf, numbersHanded, volumesHanded}
 use denote.Memory.{pointee}
-use Rattle.listing.proofs.Lent.{sint-elem}
+use Rattle.walks.proofs.Lent.{sint-elem}
 use Rattle.listing.proofs.Handed.{numbers-none, numbers-more, numbers-long, volumes-none, volumes-more, volumes-long}
 use Rattle.listing.proofs.hand as hand
 use Rattle.listing.proofs.hand.Symbol as hand-def

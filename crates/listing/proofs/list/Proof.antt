@@ -1,19 +1,20 @@
 -- `listing::list` meets its contract: a walk of its MIR, by hand. An array of records is lent to `shells::shells`, comes back, and is lent to `hand_on` as it then is.
 -- Assumes nothing.
-use Rattle.shells.proofs.Walk.{_≡_, refl, _∙_, ap, subst, ℕ, _<_, _≤_, _^_, arith, List, [], _∷_, length, getD, lit<, URA, fullShare, named, w32, w64, Val, vint, SProp, ent, id⊢, Lft, Share, GName, Fml, ftrue, fat, flft, Memory, Routine, Heap, Calls, Loops, WpFn, Tables, Atoms, Fun, fact, givenOf, tables, tablesOf, Given, ‵, raw, _⊛_, ⋆, some, later, _$_, _∵_, !, qed, by, move, keep, drop, use1, use2, split, join, pick, rewrite, fsplit, fjoin, feqL, suffices, frame, await, done, look, init, forget, stop, hop, fld, from, load, lit, of-opd, addr, and-then, no-more, assigns, land, returns, enter, alloc1, alloc0, params1, pass1, pass0, free1, free0, agg, whole, sub, look-in, FmC, fmOf, WpFn-mono, owns, Is, shows, uint-makes, nothing-lawful, u8, u32, usize, unit, RefT, sliceVal, MutSlice, ShrSlice, Room, slice-vals, mut-slice-tells, shr-slice-tells, shr-slice-copy, only, owned, peeks, heard, nothing, onEntry, Meets, tripleOf, Contract, Triple, calls-at, ensured, lasts, entered, cited, says, needs, Stays, stay-slice, stay-none-slice, walkOf, goes-slice, goes-none-slice, Walks, ends-at, walked, walk-meets, yes, plain}
+use Rattle.walks.proofs.Walk.{_≡_, refl, _∙_, ap, subst, ℕ, _<_, _≤_, _^_, arith, List, [], _∷_, length, getD, lit<, URA, fullShare, named, w32, w64, Val, vint, SProp, ent, id⊢, Lft, Share, GName, Fml, ftrue, fat, flft, Memory, Routine, Heap, Calls, Loops, WpFn, Tables, Atoms, Fun, fact, givenOf, tables, tablesOf, Given, ‵, raw, _⊛_, ⋆, some, later, _$_, _∵_, !, qed, by, move, keep, drop, use1, use2, split, join, pick, rewrite, fsplit, fjoin, feqL, suffices, frame, await, done, look, init, forget, stop, hop, fld, from, load, lit, of-opd, addr, and-then, no-more, assigns, land, returns, enter, alloc1, alloc0, params1, pass1, pass0, free1, free0, agg, whole, sub, look-in, FmC, fmOf, WpFn-mono, owns, Is, shows, uint-makes, nothing-lawful, u8, u32, usize, unit, RefT, sliceVal, MutSlice, ShrSlice, Room, slice-vals, mut-slice-tells, shr-slice-tells, shr-slice-copy, only, owned, peeks, heard, nothing, onEntry, Meets, tripleOf, Contract, Triple, calls-at, ensured, lasts, entered, cited, says, needs, Stays, stay-slice, stay-none-slice, walkOf, goes-slice, goes-none-slice, Walks, ends-at, walked, walk-meets, yes, plain}
 use Prim.Native.Nat.{_*_}
 use lib.IntN.{ℤ}
 use lib.ListN.{replicate, length-replicate}
 use types.Part.{rep}
 use denote.Builtin.{i64}
-use Rattle.shells.proofs.Slices.{uint-elem, Mut as MutOf, ref as refOf, lends, comes}
+use Rattle.walks.proofs.Slices.{uint-elem, Mut as MutOf, ref as refOf, lends, comes}
 use Rattle.shells.proofs.Records.{E, R, EL, RL, tyL, vals as vals-of, typed}
-use Rattle.shells.specs.declared.Shell.{Shell}
-use Rattle.shells.specs.declared.Listed.{Listed}
-use Rattle.shells.specs.Grown.{none}
-use Rattle.shells.specs.Promise.{left, Shells}
+use Rattle.records.specs.declared.Shell.{Shell}
+use Rattle.numbering.specs.declared.Listed.{Listed}
+use Rattle.records.specs.Grown.{none}
+use Rattle.numbering.specs.Lists.{left}
+use Rattle.shells.specs.Promise.{Shells}
 use Rattle.listing.specs.Listing.{mostListed, numbersHanded, volumesHanded, Listing}
-use Rattle.listing.proofs.Lent.{sint-elem, big-lit, typed-repeat, spreads, gathers, lends-local, local-back, shares-local, local-same}
+use Rattle.walks.proofs.Lent.{sint-elem, big-lit, typed-repeat, spreads, gathers, lends-local, local-back, shares-local, local-same}
 use Rattle.listing.proofs.Handed.{enough, all-handed}
 use Rattle.shells.proofs.shells as called
 use Rattle.shells.proofs.shells.Symbol as called-def

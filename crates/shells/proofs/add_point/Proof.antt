@@ -1,19 +1,20 @@
 -- `shells::add_point` meets its contract: a walk of its MIR, by hand. The point's record is read, `with_point` is called with it, and what that returns is stored to the same place.
 -- Assumes nothing.
-use Rattle.shells.proofs.Walk.{_≡_, refl, ap, ℕ, _<_, _^_, List, [], _∷_, length, set, getD, length-set, URA, fullShare, named, w64, tyPtr, tyInt, Val, vunit, vint, vptr, SProp, ent, id⊢, snd∗, exE, Lft, Share, GName, Fml, ftrue, fat, flft, Memory, Routine, Heap, Calls, Loops, WpFn, Tables, Atoms, sem, Fun, fact, givenOf, tables, tablesOf, Given, ‵, raw, _⊛_, ⋆, some, later, _$_, _∵_, !, qed, by, move, keep, drop, use1, use2, split, join, pick, rewrite, fsplit, fjoin, feqI, suffices, frame, await, done, look, look-raw, init, store, store-raw, forget, stop, hop, fld, from, load, lit, unit-lit, of-opd, bin, and-then, no-more, assigns, land, returns, enter, alloc1, alloc0, params1, pass1, pass0, free1, free0, whole, sub, look-in, FmC, fmOf, WpFn-mono, owns, Is, shows, uint-makes, uint-vals, uint-tells, uint-lawful, u8, u32, usize, RefT, sliceVal, MutSlice, ShrSlice, Room, slice-vals, mut-slice-tells, shr-slice-tells, shr-slice-copy, only, owned, peeks, heard, nothing, onEntry, Meets, tripleOf, Contract, Triple, calls-at, ensured, lasts, entered, cited, says, needs, Stays, stay-none, stay-slice, stay-none-slice, walkOf, goes-none, goes-slice, goes-none-slice, Walks, ends-at, walked, walk-meets, yes, plain}
-use Rattle.shells.proofs.Slices.{Mut as MutOf, fits-at, place-at, opens-at, backs-at, puts-at}
+use Rattle.walks.proofs.Walk.{_≡_, refl, ap, ℕ, _<_, _^_, List, [], _∷_, length, set, getD, length-set, URA, fullShare, named, w64, tyPtr, tyInt, Val, vunit, vint, vptr, SProp, ent, id⊢, snd∗, exE, Lft, Share, GName, Fml, ftrue, fat, flft, Memory, Routine, Heap, Calls, Loops, WpFn, Tables, Atoms, sem, Fun, fact, givenOf, tables, tablesOf, Given, ‵, raw, _⊛_, ⋆, some, later, _$_, _∵_, !, qed, by, move, keep, drop, use1, use2, split, join, pick, rewrite, fsplit, fjoin, feqI, suffices, frame, await, done, look, look-raw, init, store, store-raw, forget, stop, hop, fld, from, load, lit, unit-lit, of-opd, bin, and-then, no-more, assigns, land, returns, enter, alloc1, alloc0, params1, pass1, pass0, free1, free0, whole, sub, look-in, FmC, fmOf, WpFn-mono, owns, Is, shows, uint-makes, uint-vals, uint-tells, uint-lawful, u8, u32, usize, RefT, sliceVal, MutSlice, ShrSlice, Room, slice-vals, mut-slice-tells, shr-slice-tells, shr-slice-copy, only, owned, peeks, heard, nothing, onEntry, Meets, tripleOf, Contract, Triple, calls-at, ensured, lasts, entered, cited, says, needs, Stays, stay-none, stay-slice, stay-none-slice, walkOf, goes-none, goes-slice, goes-none-slice, Walks, ends-at, walked, walk-meets, yes, plain}
+use Rattle.walks.proofs.Slices.{Mut as MutOf, fits-at, place-at, opens-at, backs-at, puts-at}
 use Rattle.shells.proofs.Records.{E, R, ty, vals as vals-of, typed, makes-it, same, is-of}
-use Rattle.shells.specs.declared.Shell.{Shell}
-use Rattle.shells.specs.Numbering.{numberOf}
-use Rattle.shells.specs.Grown.{none, withPoint, PointTurn}
-use Rattle.shells.proofs.number_at as number-at
-use Rattle.shells.proofs.number_at.Symbol as number-at-def
-use Rattle.shells.proofs.number_at.Symbol.{name as #number-at}
-use Rattle.shells.proofs.number_at.Met as number-at-thm
-use Rattle.shells.proofs.with_point as with-point
-use Rattle.shells.proofs.with_point.Symbol as with-point-def
-use Rattle.shells.proofs.with_point.Symbol.{name as #with-point}
-use Rattle.shells.proofs.with_point.Met as with-point-thm
+use Rattle.records.specs.declared.Shell.{Shell}
+use Rattle.numbering.specs.Numbering.{numberOf}
+use Rattle.records.specs.Grown.{none, withPoint}
+use Rattle.shells.specs.Filled.{PointTurn}
+use Rattle.records.proofs.number_at as number-at
+use Rattle.records.proofs.number_at.Symbol as number-at-def
+use Rattle.records.proofs.number_at.Symbol.{name as #number-at}
+use Rattle.records.proofs.number_at.Met as number-at-thm
+use Rattle.records.proofs.with_point as with-point
+use Rattle.records.proofs.with_point.Symbol as with-point-def
+use Rattle.records.proofs.with_point.Symbol.{name as #with-point}
+use Rattle.records.proofs.with_point.Met as with-point-thm
 use Rattle.shells.proofs.add_point.Key.{name as #name}
 use Rattle.shells.proofs.add_point as f
 use Rattle.shells.proofs.add_point.Statement as stated
@@ -177,5 +178,5 @@ add-point-spec 𝓤 H 𝓜 𝓖 𝓡 =
     entered 𝓤 H (tripleOf 𝓤 H (𝓖 .A) f.signature (f.spec 𝓤 H (𝓖 .A) (𝓜 .mem) (𝓡 .run)))
     (tables 𝓤 H 𝓜 𝓡 code.env .C) (tables 𝓤 H 𝓜 𝓡 code.env .Λ) #name code.function (code.unfolded 𝓤 H 𝓜 𝓡)
     (meets 𝓤 H (𝓖 .A) (givenOf 𝓤 H 𝓜 𝓖) (𝓜 .mem) (𝓡 .run) (tablesOf 𝓤 H 𝓜 (tables 𝓤 H 𝓜 𝓡 code.env))
-    (cited 𝓤 H (NumberAt 𝓤 H (𝓖 .A) (𝓜 .mem) (𝓡 .run)) 𝓜 𝓡 code.env #number-at number-at-def.routine code.calls-shells·number-at (number-at-thm.met 𝓤 H 𝓜 𝓖 𝓡))
-    (cited 𝓤 H (WithPoint 𝓤 H (𝓖 .A) (𝓜 .mem) (𝓡 .run)) 𝓜 𝓡 code.env #with-point with-point-def.routine code.calls-shells·with-point (with-point-thm.met 𝓤 H 𝓜 𝓖 𝓡)))
+    (cited 𝓤 H (NumberAt 𝓤 H (𝓖 .A) (𝓜 .mem) (𝓡 .run)) 𝓜 𝓡 code.env #number-at number-at-def.routine code.calls-records·number-at (number-at-thm.met 𝓤 H 𝓜 𝓖 𝓡))
+    (cited 𝓤 H (WithPoint 𝓤 H (𝓖 .A) (𝓜 .mem) (𝓡 .run)) 𝓜 𝓡 code.env #with-point with-point-def.routine code.calls-records·with-point (with-point-thm.met 𝓤 H 𝓜 𝓖 𝓡)))

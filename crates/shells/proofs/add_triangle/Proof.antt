@@ -1,21 +1,22 @@
 -- `shells::add_triangle` meets its contract: a walk of its MIR, by hand. The record of the first corner is read, `with_triangle` is called with it, and what that returns is stored to the same place.
 -- Assumes nothing.
-use Rattle.shells.proofs.Walk.{_≡_, refl, ap, ℕ, _<_, _^_, List, [], _∷_, length, set, getD, length-set, URA, fullShare, named, w64, tyPtr, tyInt, Val, vunit, vint, vptr, SProp, ent, id⊢, snd∗, exE, Lft, Share, GName, Fml, ftrue, fat, flft, Memory, Routine, Heap, Calls, Loops, WpFn, Tables, Atoms, sem, Fun, fact, givenOf, tables, tablesOf, Given, ‵, raw, _⊛_, ⋆, some, later, _$_, _∵_, !, qed, by, move, keep, drop, use1, use2, split, join, pick, rewrite, fsplit, fjoin, feqI, suffices, frame, await, done, look, look-raw, init, store, store-raw, forget, stop, hop, fld, from, load, lit, unit-lit, of-opd, bin, and-then, no-more, assigns, land, returns, enter, alloc1, alloc0, params1, pass1, pass0, free1, free0, whole, sub, look-in, FmC, fmOf, WpFn-mono, owns, Is, shows, uint-makes, uint-vals, uint-tells, uint-lawful, u32, usize, RefT, sliceVal, MutSlice, ShrSlice, Room, slice-vals, mut-slice-tells, shr-slice-tells, shr-slice-copy, only, owned, peeks, heard, nothing, onEntry, Meets, tripleOf, Contract, Triple, calls-at, ensured, lasts, entered, cited, says, needs, Stays, stay-none, stay-slice, stay-none-slice, walkOf, goes-none, goes-slice, goes-none-slice, Walks, ends-at, walked, walk-meets, yes, plain}
-use Rattle.shells.proofs.Slices.{Mut as MutOf, fits-at, place-at, opens-at, backs-at, puts-at}
+use Rattle.walks.proofs.Walk.{_≡_, refl, ap, ℕ, _<_, _^_, List, [], _∷_, length, set, getD, length-set, URA, fullShare, named, w64, tyPtr, tyInt, Val, vunit, vint, vptr, SProp, ent, id⊢, snd∗, exE, Lft, Share, GName, Fml, ftrue, fat, flft, Memory, Routine, Heap, Calls, Loops, WpFn, Tables, Atoms, sem, Fun, fact, givenOf, tables, tablesOf, Given, ‵, raw, _⊛_, ⋆, some, later, _$_, _∵_, !, qed, by, move, keep, drop, use1, use2, split, join, pick, rewrite, fsplit, fjoin, feqI, suffices, frame, await, done, look, look-raw, init, store, store-raw, forget, stop, hop, fld, from, load, lit, unit-lit, of-opd, bin, and-then, no-more, assigns, land, returns, enter, alloc1, alloc0, params1, pass1, pass0, free1, free0, whole, sub, look-in, FmC, fmOf, WpFn-mono, owns, Is, shows, uint-makes, uint-vals, uint-tells, uint-lawful, u32, usize, RefT, sliceVal, MutSlice, ShrSlice, Room, slice-vals, mut-slice-tells, shr-slice-tells, shr-slice-copy, only, owned, peeks, heard, nothing, onEntry, Meets, tripleOf, Contract, Triple, calls-at, ensured, lasts, entered, cited, says, needs, Stays, stay-none, stay-slice, stay-none-slice, walkOf, goes-none, goes-slice, goes-none-slice, Walks, ends-at, walked, walk-meets, yes, plain}
+use Rattle.walks.proofs.Slices.{Mut as MutOf, fits-at, place-at, opens-at, backs-at, puts-at}
 use Rattle.shells.proofs.Records.{E, R, ty, vals as vals-of, typed, makes-it, same, is-of}
-use Rattle.shells.specs.declared.Shell.{Shell}
+use Rattle.records.specs.declared.Shell.{Shell}
 use Rattle.mesh.specs.Mesh.{triangleAt}
-use Rattle.shells.specs.Numbering.{numberOf}
-use Rattle.shells.specs.Record.{sixfold}
-use Rattle.shells.specs.Grown.{none, withTriangle, TriangleTurn}
-use Rattle.shells.proofs.number_of as number-of
-use Rattle.shells.proofs.number_of.Symbol as number-of-def
-use Rattle.shells.proofs.number_of.Symbol.{name as #number-of}
-use Rattle.shells.proofs.number_of.Met as number-of-thm
-use Rattle.shells.proofs.with_triangle as with-triangle
-use Rattle.shells.proofs.with_triangle.Symbol as with-triangle-def
-use Rattle.shells.proofs.with_triangle.Symbol.{name as #with-triangle}
-use Rattle.shells.proofs.with_triangle.Met as with-triangle-thm
+use Rattle.numbering.specs.Numbering.{numberOf}
+use Rattle.records.specs.Record.{sixfold}
+use Rattle.records.specs.Grown.{none, withTriangle}
+use Rattle.shells.specs.Filled.{TriangleTurn}
+use Rattle.records.proofs.number_of as number-of
+use Rattle.records.proofs.number_of.Symbol as number-of-def
+use Rattle.records.proofs.number_of.Symbol.{name as #number-of}
+use Rattle.records.proofs.number_of.Met as number-of-thm
+use Rattle.records.proofs.with_triangle as with-triangle
+use Rattle.records.proofs.with_triangle.Symbol as with-triangle-def
+use Rattle.records.proofs.with_triangle.Symbol.{name as #with-triangle}
+use Rattle.records.proofs.with_triangle.Met as with-triangle-thm
 use Rattle.shells.proofs.add_triangle.Key.{name as #name}
 use Rattle.shells.proofs.add_triangle as f
 use Rattle.shells.proofs.add_triangle.Statement as stated
@@ -188,5 +189,5 @@ add-triangle-spec 𝓤 H 𝓜 𝓖 𝓡 =
     entered 𝓤 H (tripleOf 𝓤 H (𝓖 .A) f.signature (f.spec 𝓤 H (𝓖 .A) (𝓜 .mem) (𝓡 .run)))
     (tables 𝓤 H 𝓜 𝓡 code.env .C) (tables 𝓤 H 𝓜 𝓡 code.env .Λ) #name code.function (code.unfolded 𝓤 H 𝓜 𝓡)
     (meets 𝓤 H (𝓖 .A) (givenOf 𝓤 H 𝓜 𝓖) (𝓜 .mem) (𝓡 .run) (tablesOf 𝓤 H 𝓜 (tables 𝓤 H 𝓜 𝓡 code.env))
-    (cited 𝓤 H (NumberOf 𝓤 H (𝓖 .A) (𝓜 .mem) (𝓡 .run)) 𝓜 𝓡 code.env #number-of number-of-def.routine code.calls-shells·number-of (number-of-thm.met 𝓤 H 𝓜 𝓖 𝓡))
-    (cited 𝓤 H (WithTriangle 𝓤 H (𝓖 .A) (𝓜 .mem) (𝓡 .run)) 𝓜 𝓡 code.env #with-triangle with-triangle-def.routine code.calls-shells·with-triangle (with-triangle-thm.met 𝓤 H 𝓜 𝓖 𝓡)))
+    (cited 𝓤 H (NumberOf 𝓤 H (𝓖 .A) (𝓜 .mem) (𝓡 .run)) 𝓜 𝓡 code.env #number-of number-of-def.routine code.calls-records·number-of (number-of-thm.met 𝓤 H 𝓜 𝓖 𝓡))
+    (cited 𝓤 H (WithTriangle 𝓤 H (𝓖 .A) (𝓜 .mem) (𝓡 .run)) 𝓜 𝓡 code.env #with-triangle with-triangle-def.routine code.calls-records·with-triangle (with-triangle-thm.met 𝓤 H 𝓜 𝓖 𝓡)))

@@ -1,11 +1,11 @@
 -- `shells::fill` meets its contract: a walk of its MIR, by hand. The slice is lent again three times.
 -- Assumes nothing.
-use Rattle.shells.proofs.Walk.{_≡_, refl, _∙_, ap, ℕ, _<_, _^_, List, [], _∷_, length, URA, fullShare, named, w64, tyInt, Val, vunit, vint, SProp, ent, id⊢, snd∗, exE, Lft, Share, GName, Fml, ftrue, fat, flft, Memory, Routine, Heap, Calls, Loops, WpFn, Tables, Atoms, sem, Fun, fact, givenOf, tables, tablesOf, Given, ‵, raw, _⊛_, ⋆, some, later, _$_, _∵_, !, qed, by, move, keep, drop, use1, use2, split, join, pick, rewrite, fsplit, fjoin, feqL, feqI, suffices, frame, await, done, look, init, store, forget, stop, hop, fld, from, load, unit-lit, of-opd, addr, and-then, no-more, assigns, land, returns, enter, alloc1, alloc0, params1, pass1, pass0, free1, free0, agg, whole, sub, look-in, FmC, fmOf, WpFn-mono, owns, Is, shows, uint-makes, uint-vals, uint-tells, uint-lawful, nothing-lawful, u8, u32, usize, unit, RefT, sliceVal, MutSlice, ShrSlice, Room, slice-vals, mut-slice-tells, shr-slice-tells, shr-slice-copy, only, owned, peeks, heard, nothing, onEntry, Meets, tripleOf, Contract, Triple, calls-at, ensured, lasts, entered, cited, says, needs, Stays, stay-none, stay-slice, stay-none-slice, walkOf, goes-none, goes-slice, goes-none-slice, Walks, ends-at, walked, walk-meets, yes, plain}
-use Rattle.shells.proofs.Slices.{Mut as MutOf, ref as refOf, lends, comes}
+use Rattle.walks.proofs.Walk.{_≡_, refl, _∙_, ap, ℕ, _<_, _^_, List, [], _∷_, length, URA, fullShare, named, w64, tyInt, Val, vunit, vint, SProp, ent, id⊢, snd∗, exE, Lft, Share, GName, Fml, ftrue, fat, flft, Memory, Routine, Heap, Calls, Loops, WpFn, Tables, Atoms, sem, Fun, fact, givenOf, tables, tablesOf, Given, ‵, raw, _⊛_, ⋆, some, later, _$_, _∵_, !, qed, by, move, keep, drop, use1, use2, split, join, pick, rewrite, fsplit, fjoin, feqL, feqI, suffices, frame, await, done, look, init, store, forget, stop, hop, fld, from, load, unit-lit, of-opd, addr, and-then, no-more, assigns, land, returns, enter, alloc1, alloc0, params1, pass1, pass0, free1, free0, agg, whole, sub, look-in, FmC, fmOf, WpFn-mono, owns, Is, shows, uint-makes, uint-vals, uint-tells, uint-lawful, nothing-lawful, u8, u32, usize, unit, RefT, sliceVal, MutSlice, ShrSlice, Room, slice-vals, mut-slice-tells, shr-slice-tells, shr-slice-copy, only, owned, peeks, heard, nothing, onEntry, Meets, tripleOf, Contract, Triple, calls-at, ensured, lasts, entered, cited, says, needs, Stays, stay-none, stay-slice, stay-none-slice, walkOf, goes-none, goes-slice, goes-none-slice, Walks, ends-at, walked, walk-meets, yes, plain}
+use Rattle.walks.proofs.Slices.{Mut as MutOf, ref as refOf, lends, comes}
 use Rattle.shells.proofs.Records.{E, R, typed, Mut}
-use Rattle.shells.specs.declared.Shell.{Shell}
+use Rattle.records.specs.declared.Shell.{Shell}
 use Rattle.mesh.specs.Mesh.{triangleCount}
-use Rattle.shells.specs.Grown.{emptied, pointsAdded, trianglesAdded, FillFits}
+use Rattle.shells.specs.Filled.{emptied, pointsAdded, trianglesAdded, FillFits}
 use Rattle.shells.proofs.Growing.{length-emptied, length-points, length-triangles}
 use Rattle.shells.proofs.empty as empty
 use Rattle.shells.proofs.empty.Symbol as empty-def

@@ -1,14 +1,14 @@
 -- `shells::put_blank` meets its contract: a walk of its MIR, by hand. `blank` is called, and what it returns is stored.
 -- Assumes nothing.
-use Rattle.shells.proofs.Walk.{_≡_, refl, ℕ, _<_, _^_, List, [], _∷_, length, set, length-set, URA, fullShare, named, w64, tyPtr, Val, vunit, vint, vptr, SProp, ent, id⊢, snd∗, exE, Lft, Share, GName, Fml, ftrue, fat, flft, Memory, Routine, Heap, Calls, Loops, WpFn, Tables, Atoms, sem, Fun, fact, givenOf, tables, tablesOf, Given, ‵, raw, _⊛_, ⋆, some, later, _$_, _∵_, !, qed, by, move, keep, drop, use1, use2, split, join, pick, rewrite, fsplit, fjoin, feqI, suffices, frame, await, done, look, init, store-raw, forget, stop, hop, fld, from, load, lit, unit-lit, of-opd, bin, no-more, assigns, land, returns, enter, alloc1, alloc0, params1, pass1, pass0, free1, free0, whole, sub, look-in, FmC, fmOf, WpFn-mono, owns, Is, shows, uint-makes, uint-vals, uint-tells, usize, RefT, sliceVal, MutSlice, Room, slice-vals, mut-slice-tells, owned, peeks, heard, nothing, onEntry, Meets, tripleOf, Contract, Triple, calls-at, ensured, lasts, entered, cited, says, needs, Stays, stay-none, stay-slice, walkOf, goes-none, goes-slice, Walks, ends-at, walked, walk-meets, yes, plain}
-use Rattle.shells.proofs.Slices.{Mut as MutOf, fits-at, place-at, opens-at, puts-at}
+use Rattle.walks.proofs.Walk.{_≡_, refl, ℕ, _<_, _^_, List, [], _∷_, length, set, length-set, URA, fullShare, named, w64, tyPtr, Val, vunit, vint, vptr, SProp, ent, id⊢, snd∗, exE, Lft, Share, GName, Fml, ftrue, fat, flft, Memory, Routine, Heap, Calls, Loops, WpFn, Tables, Atoms, sem, Fun, fact, givenOf, tables, tablesOf, Given, ‵, raw, _⊛_, ⋆, some, later, _$_, _∵_, !, qed, by, move, keep, drop, use1, use2, split, join, pick, rewrite, fsplit, fjoin, feqI, suffices, frame, await, done, look, init, store-raw, forget, stop, hop, fld, from, load, lit, unit-lit, of-opd, bin, no-more, assigns, land, returns, enter, alloc1, alloc0, params1, pass1, pass0, free1, free0, whole, sub, look-in, FmC, fmOf, WpFn-mono, owns, Is, shows, uint-makes, uint-vals, uint-tells, usize, RefT, sliceVal, MutSlice, Room, slice-vals, mut-slice-tells, owned, peeks, heard, nothing, onEntry, Meets, tripleOf, Contract, Triple, calls-at, ensured, lasts, entered, cited, says, needs, Stays, stay-none, stay-slice, walkOf, goes-none, goes-slice, Walks, ends-at, walked, walk-meets, yes, plain}
+use Rattle.walks.proofs.Slices.{Mut as MutOf, fits-at, place-at, opens-at, puts-at}
 use Rattle.shells.proofs.Records.{E, R, ty, typed, same, is-of}
-use Rattle.shells.specs.declared.Shell.{Shell}
-use Rattle.shells.specs.Grown.{none}
-use Rattle.shells.proofs.blank as blank
-use Rattle.shells.proofs.blank.Symbol as blank-def
-use Rattle.shells.proofs.blank.Symbol.{name as #blank}
-use Rattle.shells.proofs.blank.Met as blank-thm
+use Rattle.records.specs.declared.Shell.{Shell}
+use Rattle.records.specs.Grown.{none}
+use Rattle.records.proofs.blank as blank
+use Rattle.records.proofs.blank.Symbol as blank-def
+use Rattle.records.proofs.blank.Symbol.{name as #blank}
+use Rattle.records.proofs.blank.Met as blank-thm
 use Rattle.shells.proofs.put_blank.Key.{name as #name}
 use Rattle.shells.proofs.put_blank as f
 use Rattle.shells.proofs.put_blank.Statement as stated
@@ -105,4 +105,4 @@ put-blank-spec 𝓤 H 𝓜 𝓖 𝓡 =
     entered 𝓤 H (tripleOf 𝓤 H (𝓖 .A) f.signature (f.spec 𝓤 H (𝓖 .A) (𝓜 .mem) (𝓡 .run)))
     (tables 𝓤 H 𝓜 𝓡 code.env .C) (tables 𝓤 H 𝓜 𝓡 code.env .Λ) #name code.function (code.unfolded 𝓤 H 𝓜 𝓡)
     (meets 𝓤 H (𝓖 .A) (givenOf 𝓤 H 𝓜 𝓖) (𝓜 .mem) (𝓡 .run) (tablesOf 𝓤 H 𝓜 (tables 𝓤 H 𝓜 𝓡 code.env))
-    (cited 𝓤 H (Blank 𝓤 H (𝓖 .A) (𝓜 .mem) (𝓡 .run)) 𝓜 𝓡 code.env #blank blank-def.routine code.calls-shells·blank (blank-thm.met 𝓤 H 𝓜 𝓖 𝓡)))
+    (cited 𝓤 H (Blank 𝓤 H (𝓖 .A) (𝓜 .mem) (𝓡 .run)) 𝓜 𝓡 code.env #blank blank-def.routine code.calls-records·blank (blank-thm.met 𝓤 H 𝓜 𝓖 𝓡)))

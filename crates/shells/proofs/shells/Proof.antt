@@ -1,18 +1,19 @@
 -- `shells::shells` meets its contract: a walk of its MIR, by hand. `list_numbers` is lent the two rooms of numbers. After a refusal nothing else is touched; else `fill` is lent the records, and the numbers to read.
 -- Assumes nothing.
-use Rattle.shells.proofs.Walk.{_≡_, refl, ap, subst, ℕ, _<_, _≤_, _^_, arith, List, [], _∷_, length, URA, fullShare, named, erased, imm, mut, w8, w32, w64, tyInt, tyBool, tyUnit, tyRef, Val, vint, SProp, ent, emp, id⊢, via, fst∗, Lft, Share, GName, Fml, ftrue, fat, froom, fdies, flft, Memory, Routine, Heap, Env, Calls, Loops, WpFn, Tables, Atoms, Fun, fact, givenOf, tables, tablesOf, Given, ‵, raw, _⊛_, ⋆, some, later, runs, Sq, atRet, _$_, _∵_, !, qed, by, move, keep, drop, use1, use2, split, join, pick, rewrite, fsplit, fjoin, feqL, suffices, frame, await, done, look, init, forget, stop, hop, fld, from, load, lit, of-opd, bin, addr, and-then, no-more, assigns, land, first, skips, branches, exec, returns, returns-within, enter, alloc1, alloc0, params1, pass1, pass0, free1, free0, agg, whole, sub, look-in, FmC, fmOf, WpFn-mono, owns, Is, shows, uint-makes, nothing-lawful, u8, u32, usize, unit, RefT, sliceTy, sliceVal, MutSlice, ShrSlice, Room, slice-vals, mut-slice-tells, shr-slice-tells, shr-slice-copy, only, owned, peeks, heard, nothing, onEntry, Meets, tripleOf, Contract, Triple, calls-at, ensured, lasts, entered, cited, says, Stays, stay-slice, stay-none-slice, walkOf, goes-slice, goes-none-slice, Walks, ends-at, walked, walk-meets, yes, plain}
-use Rattle.shells.proofs.Slices.{uint-elem, Mut as MutOf, ref as refOf, ref-ty, lends, comes, shares-out, shares-back}
+use Rattle.walks.proofs.Walk.{_≡_, refl, ap, subst, ℕ, _<_, _≤_, _^_, arith, List, [], _∷_, length, URA, fullShare, named, erased, imm, mut, w8, w32, w64, tyInt, tyBool, tyUnit, tyRef, Val, vint, SProp, ent, emp, id⊢, via, fst∗, Lft, Share, GName, Fml, ftrue, fat, froom, fdies, flft, Memory, Routine, Heap, Env, Calls, Loops, WpFn, Tables, Atoms, Fun, fact, givenOf, tables, tablesOf, Given, ‵, raw, _⊛_, ⋆, some, later, runs, Sq, atRet, _$_, _∵_, !, qed, by, move, keep, drop, use1, use2, split, join, pick, rewrite, fsplit, fjoin, feqL, suffices, frame, await, done, look, init, forget, stop, hop, fld, from, load, lit, of-opd, bin, addr, and-then, no-more, assigns, land, first, skips, branches, exec, returns, returns-within, enter, alloc1, alloc0, params1, pass1, pass0, free1, free0, agg, whole, sub, look-in, FmC, fmOf, WpFn-mono, owns, Is, shows, uint-makes, nothing-lawful, u8, u32, usize, unit, RefT, sliceTy, sliceVal, MutSlice, ShrSlice, Room, slice-vals, mut-slice-tells, shr-slice-tells, shr-slice-copy, only, owned, peeks, heard, nothing, onEntry, Meets, tripleOf, Contract, Triple, calls-at, ensured, lasts, entered, cited, says, Stays, stay-slice, stay-none-slice, walkOf, goes-slice, goes-none-slice, Walks, ends-at, walked, walk-meets, yes, plain}
+use Rattle.walks.proofs.Slices.{uint-elem, Mut as MutOf, ref as refOf, ref-ty, lends, comes, shares-out, shares-back}
 use Rattle.shells.proofs.Records.{E, R, EL, RL, tyL, typed, tells}
-use Rattle.shells.specs.declared.Shell.{Shell}
-use Rattle.shells.specs.declared.Listed.{Listed}
-use Rattle.shells.specs.Promise.{left, Lists, Shells}
-use Rattle.shells.specs.Grown.{filled}
+use Rattle.records.specs.declared.Shell.{Shell}
+use Rattle.numbering.specs.declared.Listed.{Listed}
+use Rattle.numbering.specs.Lists.{left, Lists}
+use Rattle.shells.specs.Promise.{Shells}
+use Rattle.shells.specs.Filled.{filled}
 use Rattle.shells.proofs.Ending.{given, none-given, ends-early, enough, can-fill, ends-granted}
 use Rattle.shells.proofs.shells.Code.Mir as mir
-use Rattle.shells.proofs.list_numbers as list-numbers
-use Rattle.shells.proofs.list_numbers.Symbol as list-numbers-def
-use Rattle.shells.proofs.list_numbers.Symbol.{name as #list-numbers}
-use Rattle.shells.proofs.list_numbers.Met as list-numbers-thm
+use Rattle.numbering.proofs.list_numbers as list-numbers
+use Rattle.numbering.proofs.list_numbers.Symbol as list-numbers-def
+use Rattle.numbering.proofs.list_numbers.Symbol.{name as #list-numbers}
+use Rattle.numbering.proofs.list_numbers.Met as list-numbers-thm
 use Rattle.shells.proofs.fill as fill
 use Rattle.shells.proofs.fill.Symbol as fill-def
 use Rattle.shells.proofs.fill.Symbol.{name as #fill}
@@ -214,5 +215,5 @@ shells-spec 𝓤 H 𝓜 𝓖 𝓡 =
     entered 𝓤 H (tripleOf 𝓤 H (𝓖 .A) f.signature (f.spec 𝓤 H (𝓖 .A) (𝓜 .mem) (𝓡 .run)))
     (tables 𝓤 H 𝓜 𝓡 code.env .C) (tables 𝓤 H 𝓜 𝓡 code.env .Λ) #name code.function (code.unfolded 𝓤 H 𝓜 𝓡)
     (meets 𝓤 H (𝓖 .A) (givenOf 𝓤 H 𝓜 𝓖) (𝓜 .mem) (𝓡 .run) (tablesOf 𝓤 H 𝓜 (tables 𝓤 H 𝓜 𝓡 code.env))
-    (cited 𝓤 H (ListNumbers 𝓤 H (𝓖 .A) (𝓜 .mem) (𝓡 .run)) 𝓜 𝓡 code.env #list-numbers list-numbers-def.routine code.calls-shells·list-numbers (list-numbers-thm.met 𝓤 H 𝓜 𝓖 𝓡))
+    (cited 𝓤 H (ListNumbers 𝓤 H (𝓖 .A) (𝓜 .mem) (𝓡 .run)) 𝓜 𝓡 code.env #list-numbers list-numbers-def.routine code.calls-numbering·list-numbers (list-numbers-thm.met 𝓤 H 𝓜 𝓖 𝓡))
     (cited 𝓤 H (Fill 𝓤 H (𝓖 .A) (𝓜 .mem) (𝓡 .run)) 𝓜 𝓡 code.env #fill fill-def.routine code.calls-shells·fill (fill-thm.met 𝓤 H 𝓜 𝓖 𝓡)))

@@ -1,6 +1,6 @@
 -- `viewer::tholbrina_shells` meets its contract: a walk of its MIR, by hand. `shells::shells` is lent all rooms; its count is laid behind the lent reference, and its number is answered.
 -- Assumes nothing.
-use Rattle.shells.proofs.Walk.{_≡_, refl, ap, ℕ, _<_, _^_, arith, List, [], _∷_, length, URA, fullShare, named, w32, Val, vint, vptr, SProp, ent, emp, id⊢, via, fst∗, Lft, Share, GName, Fml, ftrue, fat, flft, Memory, Routine, Heap, Calls, Loops, WpFn, Tables, Atoms, Fun, fact, givenOf, tables, tablesOf, Given, ‵, raw, _⊛_, ⋆, some, later, _$_, _∵_, !, qed, by, move, keep, drop, use1, use2, split, join, pick, rewrite, fsplit, fjoin, feqL, feqI, suffices, frame, await, done, look, init, store, forget, stop, hop, fld, from, load, of-opd, addr, and-then, no-more, assigns, land, returns, enter, alloc1, alloc0, params1, pass1, pass0, free1, free0, agg, whole, sub, look-in, FmC, fmOf, WpFn-mono, owns, Is, shows, uint-makes, u8, u32, RefT, sliceVal, MutSlice, ShrSlice, Room, slice-vals, mut-slice-tells, shr-slice-tells, shr-slice-copy, only, owned, peeks, heard, nothing, onEntry, Meets, tripleOf, Contract, Triple, calls-at, ensured, lasts, entered, cited, says, Stays, stay-slice, stay-none-slice, walkOf, goes-slice, goes-none-slice, Walks, ends-at, walked, walk-meets, yes, plain}
+use Rattle.walks.proofs.Walk.{_≡_, refl, ap, ℕ, _<_, _^_, arith, List, [], _∷_, length, URA, fullShare, named, w32, Val, vint, vptr, SProp, ent, emp, id⊢, via, fst∗, Lft, Share, GName, Fml, ftrue, fat, flft, Memory, Routine, Heap, Calls, Loops, WpFn, Tables, Atoms, Fun, fact, givenOf, tables, tablesOf, Given, ‵, raw, _⊛_, ⋆, some, later, _$_, _∵_, !, qed, by, move, keep, drop, use1, use2, split, join, pick, rewrite, fsplit, fjoin, feqL, feqI, suffices, frame, await, done, look, init, store, forget, stop, hop, fld, from, load, of-opd, addr, and-then, no-more, assigns, land, returns, enter, alloc1, alloc0, params1, pass1, pass0, free1, free0, agg, whole, sub, look-in, FmC, fmOf, WpFn-mono, owns, Is, shows, uint-makes, u8, u32, RefT, sliceVal, MutSlice, ShrSlice, Room, slice-vals, mut-slice-tells, shr-slice-tells, shr-slice-copy, only, owned, peeks, heard, nothing, onEntry, Meets, tripleOf, Contract, Triple, calls-at, ensured, lasts, entered, cited, says, Stays, stay-slice, stay-none-slice, walkOf, goes-slice, goes-none-slice, Walks, ends-at, walked, walk-meets, yes, plain}
 use base.Fml.{fobs, fbor}
 use types.Kit.{fsplit3, fjoin3, fltI}
 use types.Run.{un}
@@ -10,14 +10,15 @@ use denote.Ref.{MutRef, ptr-vals, mut-tells}
 use denote.Steps.{opens, closes, tied, ties}
 use denote.Struct.Laws as LL
 use denote.Triple.Walked.{stay-ref, goes-ref}
-use Rattle.shells.proofs.Slices.{uint-elem, Mut as MutOf, ref as refOf, lends, comes}
+use Rattle.walks.proofs.Slices.{uint-elem, Mut as MutOf, ref as refOf, lends, comes}
 use Rattle.shells.proofs.Records.{E, R, EL, RL, tyL}
-use Rattle.shells.proofs.Listed as L
-use Rattle.shells.proofs.Listed.Laws as L′
+use Rattle.numbering.proofs.Listed as L
+use Rattle.numbering.proofs.Listed.Laws as L′
 use Rattle.shells.proofs.Few.{few-shells}
-use Rattle.shells.specs.declared.Shell.{Shell}
-use Rattle.shells.specs.declared.Listed.{Listed}
-use Rattle.shells.specs.Promise.{left, Shells}
+use Rattle.records.specs.declared.Shell.{Shell}
+use Rattle.numbering.specs.declared.Listed.{Listed}
+use Rattle.numbering.specs.Lists.{left}
+use Rattle.shells.specs.Promise.{Shells}
 use Rattle.shells.proofs.shells as called
 use Rattle.shells.proofs.shells.Symbol as called-def
 use Rattle.shells.proofs.shells.Symbol.{name as #called}

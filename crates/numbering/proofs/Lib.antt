@@ -1,0 +1,5 @@
+-- What checks show; the ranks of the sets' roots are the numbers of the shells; how a list ends; the description allows one numbering.
+pub mod Sound
+pub mod Numbered
+pub mod Listing
+pub mod OneNumbering

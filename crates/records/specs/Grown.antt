@@ -1,0 +1,50 @@
+-- A record that grows, point by point and triangle by triangle.
+use mathlib.Core.List.{List}
+use mathlib.Core.Path.{_≡_}
+use mathlib.Core.Bool.{true, cond}
+use Prim.Native.Nat.{ℕ, _+_, _*_, _/_, _<_, _^_}
+use lib.Dec.{eqb}
+use lib.IntN.{ℤ, pos, _+ℤ_}
+use lib.ListN.{length}
+use mir.Syntax.{w64}
+use mir.Val.{SFits}
+use Rattle.grid.specs.Limits.{mostCoordinate}
+use Rattle.mesh.specs.Check.{trianglesFit, allWithin}
+use Rattle.records.specs.declared.Shell.{Shell}
+
+-- the record of a shell with nothing in it
+abbrev pub none : Shell
+none = record { low = 0; points = 0; triangles = 0; touches = 0; volume = pos 0 }
+
+-- one point more, with its mark: the first is the lowest
+unfoldable pub withPoint : ℕ → ℕ → Shell → Shell
+withPoint p mark s =
+    record {
+      low = cond (eqb (s .points) 0) p (s .low);
+      points = s .points + 1;
+      triangles = s .triangles;
+      touches = cond (eqb mark 1) 1 (s .touches);
+      volume = s .volume;
+    }
+
+-- one triangle more, with its determinant
+unfoldable pub withTriangle : ℤ → Shell → Shell
+withTriangle d s =
+    record { low = s .low; points = s .points; triangles = s .triangles + 1; touches = s .touches; volume = s .volume +ℤ d }
+
+-- the record has room for one more
+unfoldable pub PointFits : Shell → Type 0
+PointFits s = s .points + 1 < 2 ^ 32
+
+pub record TriangleFits (d : ℤ) (s : Shell) : Type 0 where
+  pub count : s .triangles + 1 < 2 ^ 32
+  pub sum : SFits w64 (s .volume +ℤ d)
+
+-- every triangle names points whose places are in the list, and every coordinate is within the limit
+pub record MeshFits (points triangles : List ℕ) : Type 0 where
+  pub corners : trianglesFit triangles (length points / 3) ≡ true
+  pub near : allWithin mostCoordinate points ≡ true
+
+-- the greatest product of three coordinates
+abbrev pub mostProduct : ℕ
+mostProduct = mostCoordinate * mostCoordinate * mostCoordinate

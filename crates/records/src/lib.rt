@@ -1,0 +1,97 @@
+// A shell's record by value: one point more, one triangle more.
+ghost use mathlib.Core.Path.{_≡_};
+ghost use mathlib.Core.Bool.{true, cond};
+ghost use lib.Dec.{eqb};
+ghost use Prim.Native.Nat.{_<_, _≤_};
+ghost use lib.ListN.{length, getD};
+ghost use Rattle.grid.specs.Limits.{mostPoints};
+ghost use Rattle.mesh.specs.Mesh.{triangleCount, triangleAt};
+ghost use Rattle.mesh.specs.Check.{trianglesFit};
+ghost use Rattle.numbering.specs.Numbering.{numberOf};
+ghost use Rattle.records.specs.Record.{sixfold as sixfoldOf};
+ghost use Rattle.records.specs.Grown.{none, withPoint, withTriangle, PointFits, TriangleFits, MeshFits};
+use sets::wide;
+
+mod volume;
+
+#[repr(C)]
+pub struct Shell {
+    pub low: u32,
+    pub points: u32,
+    pub triangles: u32,
+    pub touches: u32,
+    pub volume: i64,
+}
+
+// A record with nothing in it.
+pub fn blank() -> Shell
+    ensures { λ r. ⌜ r ≡ none ⌝ }
+{
+    Shell {
+        low: 0,
+        points: 0,
+        triangles: 0,
+        touches: 0,
+        volume: 0,
+    }
+}
+
+// The shell number of point i.
+pub fn number_at(numbers: &[u32], i: usize) -> usize
+    requires { ⌜ i < length (now numbers) ⌝ }
+    ensures { λ r. ⌜ r ≡ numberOf (now (numbers .entry)) i ⌝ }
+{
+    wide(numbers[i])
+}
+
+// The lowest of a shell's points: the first one that is added.
+fn lowest(points: u32, low: u32, i: usize) -> u32
+    requires { ⌜ i < mostPoints ⌝ }
+    ensures { λ r. ⌜ r ≡ cond (eqb points 0) i low ⌝ }
+{
+    if points == 0 { i as u32 } else { low }
+}
+
+// 1 once a marked point was added.
+fn touched(mark: u8, touches: u32) -> u32
+    ensures { λ r. ⌜ r ≡ cond (eqb mark 1) 1 touches ⌝ }
+{
+    if mark == 1 { 1 } else { touches }
+}
+
+// One point more, by value.
+pub fn with_point(s: Shell, marks: &[u8], i: usize) -> Shell
+    requires { ⌜ PointFits s × (i < length (now marks)) × (length (now marks) ≤ mostPoints) ⌝ }
+    ensures { λ r. ⌜ r ≡ withPoint i (getD (now (marks .entry)) i 0) s ⌝ }
+{
+    Shell {
+        low: lowest(s.points, s.low, i),
+        points: s.points + 1,
+        triangles: s.triangles,
+        touches: touched(marks[i], s.touches),
+        volume: s.volume,
+    }
+}
+
+// One triangle more, by value.
+pub fn with_triangle(s: Shell, points: &[u32], triangles: &[u32], k: usize) -> Shell
+    requires { ⌜ TriangleFits (sixfoldOf (now points) (triangleAt (now triangles) k)) s × MeshFits (now points) (now triangles) × (k < triangleCount (now triangles)) ⌝ }
+    ensures { λ r. ⌜ r ≡ withTriangle (sixfoldOf (now (points .entry)) (triangleAt (now (triangles .entry)) k)) s ⌝ }
+{
+    let volume = laws::signed::sum(s.volume, volume::sixfold(points, triangles, k));
+    Shell {
+        low: s.low,
+        points: s.points,
+        triangles: s.triangles + 1,
+        touches: s.touches,
+        volume,
+    }
+}
+
+// The shell number of triangle k: that of its first corner.
+pub fn number_of(numbers: &[u32], triangles: &[u32], k: usize) -> usize
+    requires { ⌜ (trianglesFit (now triangles) (length (now numbers)) ≡ true) × (k < triangleCount (now triangles)) ⌝ }
+    ensures { λ r. ⌜ r ≡ numberOf (now (numbers .entry)) (triangleAt (now (triangles .entry)) k .one) ⌝ }
+{
+    number_at(numbers, wide(triangles[3 * k]))
+}

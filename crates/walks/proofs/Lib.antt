@@ -1,0 +1,4 @@
+-- Walks by hand over lent slices of structs: the names they use, a `&mut [E]`, and a `&[E]` or a local array that is lent.
+pub mod Walk
+pub mod Slices
+pub mod Lent
