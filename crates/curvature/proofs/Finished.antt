@@ -6,14 +6,14 @@ use native.Mathlib.Decide.{ℕ-discrete}
 use native.Mathlib.Omega.{arith}
 use lib.Ieee.{Float, nan, binary64, mul, ofBits}
 use lib.ListN.{length, getD}
-use Rattle.curvature.specs.declared.vectors.Vector.{Vector}
+use Rattle.measures.specs.declared.vectors.Vector.{Vector}
 use Rattle.curvature.specs.declared.answers.Answer.{Answer}
-use Rattle.curvature.specs.Vectors.{over, vectorAt, putVector}
-use Rattle.curvature.specs.Sums.{sums}
-use Rattle.curvature.specs.Rooms.{sumAt}
+use Rattle.measures.specs.Vectors.{over, vectorAt, putVector}
+use Rattle.sums.specs.Sums.{sums}
+use Rattle.sums.specs.Rooms.{sumAt}
 use Rattle.curvature.specs.Answers.{answerOf, answer, storedVector}
-use Rattle.curvature.proofs.Floats.{four-is}
-use Rattle.curvature.proofs.Stored.{vector-same, vector-other}
+use Rattle.measures.proofs.Floats.{four-is}
+use Rattle.sums.proofs.Stored.{vector-same, vector-other}
 
 -- from the parts that are worked out on the way
 pub finish-of : (vectors after : List Float) (at mark : ℕ) (area : Float) (running divided new : Vector) (a : Answer) → running ≡ vectorAt vectors at

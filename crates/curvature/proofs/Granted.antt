@@ -12,10 +12,10 @@ use Rattle.laws.specs.Range.{joinTo}
 use Rattle.laws.proofs.Rows.{length-rows, entry-at}
 use Rattle.mesh.specs.Mesh.{triangleCount}
 use Rattle.mesh.specs.Check.{meshNumber}
-use Rattle.curvature.specs.declared.vectors.Vector.{Vector}
-use Rattle.curvature.specs.Vectors.{plusZero, numbersOf, vectorAt}
-use Rattle.curvature.specs.Sums.{start, sumAfter}
-use Rattle.curvature.specs.Rooms.{sumAt}
+use Rattle.measures.specs.declared.vectors.Vector.{Vector}
+use Rattle.measures.specs.Vectors.{plusZero, numbersOf, vectorAt}
+use Rattle.sums.specs.Sums.{start, sumAfter}
+use Rattle.sums.specs.Rooms.{sumAt}
 use Rattle.curvature.specs.Answers.{answer, storedVector}
 use Rattle.curvature.specs.Outcome.{sumOf, answerFor, granted, outcome}
 use Rattle.curvature.specs.Promise.{left}

@@ -4,12 +4,12 @@ use mathlib.Core.Path.{_≡_, refl, sym, ap, ap₂, _∙_}
 use Prim.Native.Nat.{ℕ}
 use native.Mathlib.Omega.{arith}
 use lib.Ieee.{Float}
-use Rattle.curvature.specs.declared.vectors.Vector.{Vector}
+use Rattle.measures.specs.declared.vectors.Vector.{Vector}
 use Rattle.curvature.specs.declared.answers.Answer.{Answer}
 use Rattle.curvature.specs.declared.answers.Answer.the-variants.{Open, Flat, Bent}
 use Rattle.curvature.specs.declared.answers.Reading.{Reading}
 use Rattle.curvature.specs.declared.answers.Reading.the-variants.{Answered, Refused}
-use Rattle.curvature.specs.Vectors.{vector}
+use Rattle.measures.specs.Vectors.{vector}
 use Rattle.curvature.specs.Answers.{valuesOf, numberOf, holdsOf}
 use Rattle.curvature.specs.Outcome.{Outcome}
 use Rattle.curvature.specs.Promise.{Curves, ReadsBack, Tells}

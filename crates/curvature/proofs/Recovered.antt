@@ -11,12 +11,12 @@ use borrow.Author.Tests.{eqb-true, eqb-false}
 use Rattle.laws.specs.Range.{joinTo}
 use Rattle.laws.proofs.Rows.{length-rows, entry-at}
 use Rattle.mesh.specs.Check.{meshNumber}
-use Rattle.curvature.specs.declared.vectors.Vector.{Vector}
+use Rattle.measures.specs.declared.vectors.Vector.{Vector}
 use Rattle.curvature.specs.declared.answers.Answer.the-variants.{Open, Flat, Bent}
 use Rattle.curvature.specs.declared.answers.Reading.{Reading}
 use Rattle.curvature.specs.declared.answers.Reading.the-variants.{Answered}
-use Rattle.curvature.specs.Vectors.{plusZero, vector, numbersOf, vectorAt}
-use Rattle.curvature.specs.Sums.{Sum}
+use Rattle.measures.specs.Vectors.{plusZero, vector, numbersOf, vectorAt}
+use Rattle.sums.specs.Sums.{Sum}
 use Rattle.curvature.specs.Answers.{answerOf, answer, storedVector, answerAt}
 use Rattle.curvature.specs.Outcome.{Outcome, sumOf, answerFor, granted, outcome}
 use Rattle.curvature.specs.Promise.{Curves, ReadsBack}

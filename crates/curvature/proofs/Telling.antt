@@ -8,7 +8,7 @@ use lib.Dec.{eqb}
 use lib.ListN.{length}
 use lib.Ieee.{Float}
 use borrow.Author.Tests.{ne-eqb}
-use Rattle.curvature.specs.declared.vectors.Vector.{Vector}
+use Rattle.measures.specs.declared.vectors.Vector.{Vector}
 use Rattle.curvature.specs.declared.answers.Answer.{Answer}
 use Rattle.curvature.specs.declared.answers.Reading.the-variants.{Answered, Refused}
 use Rattle.curvature.specs.Answers.{kindOf, areaOf, storedVector, valuesOf, numberOf, holdsOf, readNumber, answerAt}

@@ -6,13 +6,13 @@ use lib.Dec.{eqb, leb, ltb}
 use lib.IntN.{pos}
 use lib.ListN.{length, getD}
 use lib.Ieee.{Float, nan, binary64, mul, eq}
-use Rattle.curvature.specs.declared.vectors.Vector.{Vector}
+use Rattle.measures.specs.declared.vectors.Vector.{Vector}
 use Rattle.curvature.specs.declared.answers.Answer.{Answer}
 use Rattle.curvature.specs.declared.answers.Answer.the-variants.{Open, Flat, Bent}
 use Rattle.curvature.specs.declared.answers.Reading.{Reading}
 use Rattle.curvature.specs.declared.answers.Reading.the-variants.{Answered, Refused}
-use Rattle.curvature.specs.Vectors.{plusZero, noVector, vectorAt, whole, over}
-use Rattle.curvature.specs.Sums.{Sum}
+use Rattle.measures.specs.Vectors.{plusZero, noVector, vectorAt, whole, over}
+use Rattle.sums.specs.Sums.{Sum}
 
 -- mark 1 is open, else an area of +0.0 or -0.0 is flat, else bent
 unfoldable pub answerOf : ℕ → Float → Vector → Answer

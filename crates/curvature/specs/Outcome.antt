@@ -9,8 +9,8 @@ use Rattle.laws.specs.Range.{joinTo}
 use Rattle.mesh.specs.Mesh.{triangleCount}
 use Rattle.mesh.specs.Check.{meshNumber}
 use Rattle.curvature.specs.declared.answers.Answer.{Answer}
-use Rattle.curvature.specs.Vectors.{numbersOf}
-use Rattle.curvature.specs.Sums.{Sum, start, sumAfter}
+use Rattle.measures.specs.Vectors.{numbersOf}
+use Rattle.sums.specs.Sums.{Sum, start, sumAfter}
 use Rattle.curvature.specs.Answers.{answer, storedVector}
 
 pub record Outcome : Type 0 where

@@ -2,12 +2,12 @@
 ghost use mathlib.Core.Path.{_≡_};
 ghost use Prim.Native.Nat.{ℕ, _+_, _*_, _<_};
 ghost use lib.ListN.{length, getD};
-ghost use Rattle.curvature.specs.Vectors.{vectorAt, putVector};
-ghost use Rattle.curvature.specs.Sums.{sums};
-ghost use Rattle.curvature.specs.Rooms.{sumAt};
+ghost use Rattle.measures.specs.Vectors.{vectorAt, putVector};
+ghost use Rattle.sums.specs.Sums.{sums};
+ghost use Rattle.sums.specs.Rooms.{sumAt};
 ghost use Rattle.curvature.specs.Answers.{answerOf, answer as answerFrom, kindOf, areaOf, storedVector};
-use crate::vectors;
-use crate::vectors::Vector;
+use measures::vectors;
+use measures::vectors::Vector;
 
 // One of three: open with its area, flat, or bent with its area and a vector.
 pub enum Answer {

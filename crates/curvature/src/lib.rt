@@ -2,17 +2,12 @@
 ghost use Rattle.curvature.specs.Promise.{left, Curves, ReadsBack};
 
 mod answers;
-mod corners;
-mod sides;
-mod sums;
-mod vectors;
-mod whole;
 
 pub use answers::Answer;
 pub use answers::Plain;
 pub use answers::Reading;
 pub use answers::told;
-pub use vectors::Vector;
+use measures::vectors;
 
 // The corner areas and mean curvature vectors of a mesh, into the two lent rooms.
 pub fn curvature(

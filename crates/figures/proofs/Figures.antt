@@ -18,8 +18,8 @@ use lib.Count.{trailingZeros}
 use lib.Ieee.{ofInt, div, add, mul, sum, round as rounded, units, odd, size, span, climb}
 use Rattle.root.specs.Root.{scaleOf, firstScale, rootOf, rootBelow, nextRoot}
 use Rattle.laws.specs.Signed.{negative}
-use Rattle.curvature.specs.Sides.{between, dot, cross, squared, dotAt, oppositeAt, crossAt}
-use Rattle.curvature.specs.Corners.{dotsOf, squaresOf, doubleArea, cotangents, acuteShare, acuteShares, shares}
+use Rattle.measures.specs.Sides.{between, dot, cross, squared, dotAt, oppositeAt, crossAt}
+use Rattle.measures.specs.Corners.{dotsOf, squaresOf, doubleArea, cotangents, acuteShare, acuteShares, shares}
 use Rattle.figures.specs.Figure.{Holds, figures}
 
 pub figures-hold : All Holds figures

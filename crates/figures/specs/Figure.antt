@@ -11,11 +11,11 @@ use Rattle.smooth.specs.Round.{moved, round}
 use lib.IntN.{pos}
 use lib.Ieee.{Float}
 use Rattle.root.specs.Root.{scaleOf}
-use Rattle.curvature.specs.declared.corners.Corners.{Corners}
+use Rattle.measures.specs.declared.corners.Corners.{Corners}
 use Rattle.mesh.specs.Place.{placeOf}
-use Rattle.curvature.specs.Sides.{crossAt}
-use Rattle.curvature.specs.Vectors.{whole}
-use Rattle.curvature.specs.Corners.{corners, dotsOf, squaresOf, doubleArea, cotangents, shares}
+use Rattle.measures.specs.Sides.{crossAt}
+use Rattle.measures.specs.Vectors.{whole}
+use Rattle.measures.specs.Corners.{corners, dotsOf, squaresOf, doubleArea, cotangents, shares}
 
 -- document 01's s, D and shares of a triangle of three points, whose coordinates stand in a list
 pub record Parts : Type 0 where

@@ -4,8 +4,8 @@ use Prim.Native.Nat.{ℕ, _<_}
 use native.Mathlib.Omega.{arith}
 use lib.ListN.{length}
 use borrow.Author.Needs.{needs}
-use Rattle.curvature.specs.Sums.{start}
-use Rattle.curvature.specs.Rooms.{sumAt}
+use Rattle.sums.specs.Sums.{start}
+use Rattle.sums.specs.Rooms.{sumAt}
 use Rattle.mesh.proofs.Passed.{passed}
 use Rattle.curvature.proofs.Granted.{refused-mesh, refused-areas, refused-vectors, granted-rooms, sums-start, area-is, vector-is}
 use Rattle.curvature.proofs.curvature.Statement.{statement}

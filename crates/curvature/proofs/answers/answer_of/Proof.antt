@@ -1,7 +1,7 @@
 -- `curvature::answers::answer_of` meets its contract. Assumes nothing.
 use borrow.Author.Tests.{eq-eqb, ne-eqb}
 use Rattle.curvature.specs.Answers.{answerOf}
-use Rattle.curvature.proofs.Floats.{zero-is}
+use Rattle.measures.proofs.Floats.{zero-is}
 use Rattle.curvature.proofs.answers.answer_of.Statement.{statement}
 use Rattle.curvature.proofs.answers.answer_of.Tie as tie
 

@@ -2,7 +2,7 @@
 use mathlib.Core.Path.{sym, ap, _∙_}
 use borrow.Author.Needs.{needs}
 use Rattle.curvature.specs.Answers.{kindOf, areaOf, storedVector}
-use Rattle.curvature.proofs.Floats.{zero-is}
+use Rattle.measures.proofs.Floats.{zero-is}
 use Rattle.curvature.proofs.answers.told.Statement.{statement}
 use Rattle.curvature.proofs.answers.told.Tie as tie
 
