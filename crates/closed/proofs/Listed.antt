@@ -22,13 +22,13 @@ use Rattle.mesh.specs.Check.{trianglesFit, allWithin}
 use Rattle.extract.specs.Outcome.{Rooms, Outcome as Extracted}
 use Rattle.extract.specs.Promise.{Extracts}
 use Rattle.records.specs.declared.Shell.{Shell}
-use Rattle.numbering.specs.Numbering.{numberOf, Numbering}
+use Rattle.shellnumbers.specs.Numbering.{numberOf, Numbering}
 use Rattle.records.specs.Record.{anyOf, pointsUnder, recordFrom, recordOf}
-use Rattle.numbering.specs.Lists.{Outcome, Lists, refused, crowded, granted}
+use Rattle.shellnumbers.specs.Lists.{Outcome, Lists, refused, crowded, granted}
 use Rattle.shells.specs.Promise.{recordsAfter, Shells}
 use Rattle.mesh.proofs.Places.{within-any}
 use Rattle.mesh.proofs.Passed.{corners}
-use Rattle.numbering.proofs.Sound.{passed}
+use Rattle.shellnumbers.proofs.Sound.{passed}
 use Rattle.sets.proofs.Leading.{led-first, led-second}
 use Rattle.records.proofs.Lows.{by-lowest, lows-rise}
 use Rattle.records.proofs.Totals.{all-triangles}

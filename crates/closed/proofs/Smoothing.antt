@@ -7,7 +7,7 @@ use lib.Dec.{eqb}
 use lib.ListN.{length, replicate}
 use borrow.Author.Tests.{eqb-false}
 use Rattle.mesh.specs.Mesh.{trianglesOf}
-use Rattle.smooth.specs.Round.{rounds}
+use Rattle.rounds.specs.Round.{rounds}
 use Rattle.smooth.specs.Smooth.{Outcome, smoothNumber, smoothed as leaves}
 use Rattle.smooth.specs.Promise.{Smooths}
 use Rattle.closed.specs.Left.{Mesh, smoothed}

@@ -4,7 +4,7 @@ use Prim.Native.Nat.{ℕ, _*_}
 use lib.ListN.{take}
 use Rattle.extract.specs.Outcome.{Outcome}
 use Rattle.mesh.specs.Mesh.{trianglesOf}
-use Rattle.smooth.specs.Round.{rounds}
+use Rattle.rounds.specs.Round.{rounds}
 
 -- a mesh as the calls on a mesh take it: three coordinates a point, three points a triangle, a mark a point
 pub record Mesh : Type 0 where

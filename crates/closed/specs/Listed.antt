@@ -10,7 +10,7 @@ use Rattle.laws.specs.Range.{sumTo}
 use Rattle.mesh.specs.Mesh.{triangleCount, triangleAt, trianglesOf}
 use Rattle.records.specs.declared.Shell.{Shell}
 use Rattle.sets.specs.Led.{Led}
-use Rattle.numbering.specs.Numbering.{numberOf}
+use Rattle.shellnumbers.specs.Numbering.{numberOf}
 use Rattle.closed.specs.Left.{Mesh}
 
 -- the points of shell n, by the list of shell numbers

@@ -65,7 +65,7 @@ fn measured(
 {
     let mut masks = [0u64; 4096];
     masks::fill(samples, nx, ny * nz, grey, &mut masks);
-    let found = points::number(nx, ny, nz, &masks, work);
+    let found = pointnumbers::number(nx, ny, nz, &masks, work);
     let room = rooms::least(points.len() / 3, rooms::least(edges.len(), marks.len()));
     if exceeds(found, MOST_POINTS, room) {
         return refused_later(4, work);
@@ -74,7 +74,7 @@ fn measured(
     if exceeds(made, MOST_TRIANGLES, triangles.len() / 3) {
         return refused_later(5, work);
     }
-    points::place(nx, ny, nz, grey, samples, &masks, points, edges, marks);
+    pointplaces::place(nx, ny, nz, grey, samples, &masks, points, edges, marks);
     triangles::write(nx, ny, nz, &masks, work, triangles);
     rooms::clear(work);
     Extracted {

@@ -13,7 +13,7 @@ use Rattle.laws.specs.Range.{keepTo, joinTo}
 use Rattle.laws.specs.Order.{isIn}
 use Rattle.laws.specs.Mesh.{sides, sameArrow}
 use Rattle.mesh.specs.Neighbours.{neighbours, shareSide}
-use Rattle.smooth.specs.Round.{moved, movedIf, round}
+use Rattle.rounds.specs.Round.{moved, movedIf, round}
 use lib.Count.{trailingZeros}
 use lib.Ieee.{ofInt, div, add, mul, sum, round as rounded, units, odd, size, span, climb}
 use Rattle.root.specs.Root.{scaleOf, firstScale, rootOf, rootBelow, nextRoot}

@@ -7,7 +7,7 @@ use Rattle.cube.specs.Answer.{triangles}
 use lib.ListN.{length, replicate}
 use Rattle.laws.specs.Sum.{sumOf}
 use Rattle.grid.specs.Point.{offset}
-use Rattle.smooth.specs.Round.{moved, round}
+use Rattle.rounds.specs.Round.{moved, round}
 use lib.IntN.{pos}
 use lib.Ieee.{Float}
 use Rattle.root.specs.Root.{scaleOf}

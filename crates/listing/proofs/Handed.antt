@@ -19,7 +19,7 @@ use Rattle.laws.proofs.Writes.{sets-append, sets-front}
 use Rattle.records.specs.declared.Shell.{Shell}
 use Rattle.records.specs.Grown.{none}
 use Rattle.records.specs.Record.{recordOf}
-use Rattle.numbering.specs.Lists.{Outcome, Lists, refused, crowded, granted}
+use Rattle.shellnumbers.specs.Lists.{Outcome, Lists, refused, crowded, granted}
 use Rattle.shells.specs.Promise.{Shells, recordsAfter}
 use Rattle.listing.specs.Listing.{mostListed, numbersOf, numbersHanded, volumesHanded, Listing}
 

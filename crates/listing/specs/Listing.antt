@@ -9,7 +9,7 @@ use Rattle.laws.specs.Values.{listTo}
 use Rattle.grid.specs.Limits.{mostSmall}
 use Rattle.records.specs.declared.Shell.{Shell}
 use Rattle.records.specs.Record.{recordOf}
-use Rattle.numbering.specs.Lists.{Outcome, Lists}
+use Rattle.shellnumbers.specs.Lists.{Outcome, Lists}
 
 -- a small mesh has at most three points a sample, and at most as many shells as points
 abbrev pub mostListed : ℕ

@@ -5,11 +5,11 @@ ghost use mathlib.Core.Path.{_≡_};
 ghost use lib.ListN.{length, getD, set};
 ghost use lib.Seq.{sets};
 ghost use Rattle.records.specs.Grown.{none};
-ghost use Rattle.numbering.specs.Lists.{left};
+ghost use Rattle.shellnumbers.specs.Lists.{left};
 ghost use Rattle.listing.specs.Listing.{mostListed, numbersOf, numbersHanded, volumesHanded, Listing};
 use grid::limits::MOST_SMALL;
-use numbering::Listed;
 use records::Shell;
+use shellnumbers::Listed;
 
 // A small mesh has at most three points a sample, and at most as many shells as points.
 pub const MOST_LISTED: usize = 3 * (MOST_SMALL as usize);

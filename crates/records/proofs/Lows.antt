@@ -11,7 +11,7 @@ use borrow.Author.Tests.{eq-eqb, eqb-true}
 use Rattle.laws.specs.Range.{keepTo}
 use Rattle.laws.proofs.Keep.{rank-lt, Ranked, kept-at}
 use Rattle.mesh.specs.Mesh.{trianglesOf}
-use Rattle.numbering.specs.Numbering.{numberOf, Lowest, Numbering}
+use Rattle.shellnumbers.specs.Numbering.{numberOf, Lowest, Numbering}
 use Rattle.records.specs.Record.{pointsUnder, recordFrom, recordOf}
 
 module _ (points triangles marks found : List ℕ) (shells : ℕ) (N : Numbering (trianglesOf triangles) (length marks) found shells) where

@@ -6,7 +6,7 @@ use Prim.Native.Nat.{ℕ, _<_}
 use lib.Dec.{eqb}
 use Rattle.mesh.specs.Mesh.{triangleCount, triangleAt, trianglesOf}
 use Rattle.mesh.specs.Check.{trianglesFit}
-use Rattle.numbering.specs.Numbering.{numberOf, Numbering}
+use Rattle.shellnumbers.specs.Numbering.{numberOf, Numbering}
 use Rattle.records.specs.Record.{namesUnder}
 use Rattle.mesh.proofs.Passed.{corners}
 use Rattle.sets.proofs.Leading.{led-first, led-second, led-on}

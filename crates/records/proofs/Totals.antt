@@ -11,7 +11,7 @@ use Rattle.laws.proofs.Keep.{length-keep}
 use Rattle.laws.proofs.Parted.{parted}
 use Rattle.mesh.specs.Mesh.{triangleCount, triangleAt, trianglesOf}
 use Rattle.mesh.specs.Check.{trianglesFit}
-use Rattle.numbering.specs.Numbering.{numberOf, Numbering}
+use Rattle.shellnumbers.specs.Numbering.{numberOf, Numbering}
 use Rattle.records.specs.Record.{pointsUnder, namesUnder, trianglesUnder, recordFrom, recordOf}
 use Rattle.mesh.proofs.Passed.{corners}
 use Rattle.records.proofs.OneNumber.{one-number}

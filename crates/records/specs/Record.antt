@@ -12,7 +12,7 @@ use Rattle.mesh.specs.Mesh.{triangleCount, triangleAt}
 use Rattle.mesh.specs.declared.Place.{Place}
 use Rattle.mesh.specs.Place.{placeOf}
 use Rattle.records.specs.declared.Shell.{Shell}
-use Rattle.numbering.specs.Numbering.{numberOf}
+use Rattle.shellnumbers.specs.Numbering.{numberOf}
 
 -- does any element pass the test
 unfoldable pub anyOf : {A : Type 0} → (A → Bool) → List A → Bool

@@ -7,7 +7,7 @@ ghost use lib.ListN.{length, getD};
 ghost use Rattle.grid.specs.Limits.{mostPoints};
 ghost use Rattle.mesh.specs.Mesh.{triangleCount, triangleAt};
 ghost use Rattle.mesh.specs.Check.{trianglesFit};
-ghost use Rattle.numbering.specs.Numbering.{numberOf};
+ghost use Rattle.shellnumbers.specs.Numbering.{numberOf};
 ghost use Rattle.records.specs.Record.{sixfold as sixfoldOf};
 ghost use Rattle.records.specs.Grown.{none, withPoint, withTriangle, PointFits, TriangleFits, MeshFits};
 use sets::wide;

@@ -9,11 +9,11 @@ use lib.ListN.{length}
 use borrow.Author.Tests.{eq-eqb, ne-eqb, eqb-true}
 use Rattle.mesh.specs.Mesh.{trianglesOf}
 use Rattle.records.specs.declared.Shell.{Shell}
-use Rattle.numbering.specs.Numbering.{Numbering}
-use Rattle.numbering.specs.Lists.{left, Lists, refused, crowded, granted}
+use Rattle.shellnumbers.specs.Numbering.{Numbering}
+use Rattle.shellnumbers.specs.Lists.{left, Lists, refused, crowded, granted}
 use Rattle.shells.specs.Promise.{recordsAfter, Shells}
 use Rattle.shells.specs.Filled.{filled, FillFits}
-use Rattle.numbering.proofs.Sound.{Passed, passed}
+use Rattle.shellnumbers.proofs.Sound.{Passed, passed}
 use Rattle.shells.proofs.Made.{fill-fits, made}
 
 -- the answer's number is tested

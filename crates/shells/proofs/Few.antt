@@ -7,11 +7,11 @@ use lib.ListN.{length}
 use Rattle.grid.specs.Limits.{mostPoints}
 use Rattle.mesh.specs.Mesh.{trianglesOf}
 use Rattle.records.specs.declared.Shell.{Shell}
-use Rattle.numbering.specs.Numbering.{Numbering}
+use Rattle.shellnumbers.specs.Numbering.{Numbering}
 use Rattle.records.specs.Record.{recordOf}
-use Rattle.numbering.specs.Lists.{left, Lists, refused, crowded, granted}
+use Rattle.shellnumbers.specs.Lists.{left, Lists, refused, crowded, granted}
 use Rattle.shells.specs.Promise.{Shells}
-use Rattle.numbering.proofs.Sound.{passed}
+use Rattle.shellnumbers.proofs.Sound.{passed}
 use Rattle.records.proofs.Lows.{by-lowest, lows-rise}
 
 module _ (points triangles marks found : List ℕ) where

@@ -6,7 +6,7 @@ use native.Mathlib.Numerals.{add-one}
 use lib.ListN.{length, getD, set, length-set}
 use Rattle.mesh.specs.Mesh.{triangleAt}
 use Rattle.records.specs.declared.Shell.{Shell}
-use Rattle.numbering.specs.Numbering.{numberOf}
+use Rattle.shellnumbers.specs.Numbering.{numberOf}
 use Rattle.records.specs.Record.{sixfold}
 use Rattle.records.specs.Grown.{none, withPoint, withTriangle}
 use Rattle.shells.specs.Filled.{changed, emptied, pointsAdded, trianglesAdded}

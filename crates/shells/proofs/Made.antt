@@ -19,12 +19,12 @@ use Rattle.laws.proofs.Values.{length-list, laid-none, laid-more, laid-at, laid
 use Rattle.mesh.specs.Mesh.{triangleCount, triangleAt, trianglesOf}
 use Rattle.mesh.specs.Check.{trianglesFit}
 use Rattle.records.specs.declared.Shell.{Shell}
-use Rattle.numbering.specs.Numbering.{numberOf, Numbering}
+use Rattle.shellnumbers.specs.Numbering.{numberOf, Numbering}
 use Rattle.records.specs.Record.{sixfold, pointsUnder, namesUnder, trianglesUnder, recordFrom, recordOf}
 use Rattle.records.specs.Grown.{none, withPoint, withTriangle, PointFits, TriangleFits}
 use Rattle.shells.specs.Filled.{changed, emptied, pointsAdded, trianglesAdded, filled, PointTurn, TriangleTurn, FillFits}
 use Rattle.mesh.proofs.Passed.{corners}
-use Rattle.numbering.proofs.Sound.{Passed}
+use Rattle.shellnumbers.proofs.Sound.{Passed}
 use Rattle.records.proofs.OneNumber.{one-number}
 use Rattle.records.proofs.Making.{with-point, with-triangle, no-record, point-fits, triangle-fits}
 

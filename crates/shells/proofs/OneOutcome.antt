@@ -6,9 +6,9 @@ use native.Mathlib.Omega.{arith}
 use lib.ListN.{length, replicate}
 use Rattle.mesh.specs.Mesh.{trianglesOf}
 use Rattle.records.specs.declared.Shell.{Shell}
-use Rattle.numbering.specs.Lists.{Outcome, left, Lists, refused, crowded, granted}
+use Rattle.shellnumbers.specs.Lists.{Outcome, left, Lists, refused, crowded, granted}
 use Rattle.shells.specs.Promise.{recordsAfter, Shells}
-use Rattle.numbering.proofs.OneNumbering.{one-numbering}
+use Rattle.shellnumbers.proofs.OneNumbering.{one-numbering}
 
 module _ (points triangles marks : List ℕ) where
   pub one-list : (records : ℕ) (numbers work : List ℕ) (o o′ : Outcome) → Lists points triangles marks records numbers work o → Lists points triangles marks records numbers work o′ → o ≡ o′

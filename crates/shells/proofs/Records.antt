@@ -21,8 +21,8 @@ use Rattle.records.specs.declared.Shell.{Shell}
 use Rattle.records.specs.Grown.{none}
 use Rattle.records.proofs.Shell as T
 use Rattle.records.proofs.Shell.Laws as T′
-use Rattle.numbering.proofs.Listed as L
-use Rattle.numbering.proofs.Listed.Laws as L′
+use Rattle.shellnumbers.proofs.Listed as L
+use Rattle.shellnumbers.proofs.Listed.Laws as L′
 use Rattle.walks.proofs.Slices as S
 use Rattle.walks.proofs.Slices.{Elem, struct-elem}
 

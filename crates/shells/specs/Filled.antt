@@ -7,7 +7,7 @@ use lib.ListN.{length, getD, set}
 use Rattle.grid.specs.Limits.{mostPoints}
 use Rattle.mesh.specs.Mesh.{triangleCount, triangleAt}
 use Rattle.mesh.specs.Check.{trianglesFit}
-use Rattle.numbering.specs.Numbering.{numberOf}
+use Rattle.shellnumbers.specs.Numbering.{numberOf}
 use Rattle.records.specs.declared.Shell.{Shell}
 use Rattle.records.specs.Record.{sixfold}
 use Rattle.records.specs.Grown.{none, withPoint, withTriangle, PointFits, TriangleFits, MeshFits}

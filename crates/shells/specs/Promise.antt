@@ -8,7 +8,7 @@ use lib.ListN.{length}
 use Rattle.laws.specs.Room.{laid}
 use Rattle.laws.specs.Values.{listTo}
 use Rattle.records.specs.declared.Shell.{Shell}
-use Rattle.numbering.specs.Lists.{Outcome, Lists}
+use Rattle.shellnumbers.specs.Lists.{Outcome, Lists}
 use Rattle.records.specs.Record.{recordOf}
 
 module _ (points triangles marks : List ℕ) where

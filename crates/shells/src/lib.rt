@@ -3,20 +3,20 @@ ghost use mathlib.Core.Path.{_≡_};
 ghost use Prim.Native.Nat.{_<_, _≤_};
 ghost use lib.ListN.{length, getD, set};
 ghost use Rattle.mesh.specs.Mesh.{triangleCount, triangleAt};
-ghost use Rattle.numbering.specs.Numbering.{numberOf};
-ghost use Rattle.numbering.specs.Lists.{left};
+ghost use Rattle.shellnumbers.specs.Numbering.{numberOf};
+ghost use Rattle.shellnumbers.specs.Lists.{left};
 ghost use Rattle.records.specs.Record.{sixfold as sixfoldOf};
 ghost use Rattle.records.specs.Grown.{none, withPoint, withTriangle};
 ghost use Rattle.shells.specs.Promise.{Shells};
 ghost use Rattle.shells.specs.Filled.{PointTurn, PointsFit, TriangleTurn, TrianglesFit, changed, emptied, pointsAdded, trianglesAdded, filled, FillFits};
-use numbering::Listed;
-use numbering::list_numbers;
 use records::Shell;
 use records::blank;
 use records::number_at;
 use records::number_of;
 use records::with_point;
 use records::with_triangle;
+use shellnumbers::Listed;
+use shellnumbers::list_numbers;
 
 // Makes record n empty.
 fn put_blank(records: &mut [Shell], n: usize)

@@ -15,9 +15,9 @@ use Rattle.mesh.specs.Mesh.{trianglesOf}
 use Rattle.mesh.specs.Check.{meshNumber}
 use Rattle.mesh.proofs.Passed.{passed}
 use Rattle.records.specs.declared.Shell.{Shell}
-use Rattle.numbering.specs.Numbering.{Numbering}
+use Rattle.shellnumbers.specs.Numbering.{Numbering}
 use Rattle.records.specs.Record.{recordOf}
-use Rattle.numbering.specs.Lists.{Outcome, left, roomsFit, refusal, early, Lists, refused, crowded, granted}
+use Rattle.shellnumbers.specs.Lists.{Outcome, left, roomsFit, refusal, early, Lists, refused, crowded, granted}
 use Rattle.shells.proofs.Few.{no-more-than-points}
 use Rattle.writing.specs.Writing.{outcome}
 use Rattle.meshtext.specs.MeshText.{meshText, listsFit, recordsFit, Holds, meshWritten}

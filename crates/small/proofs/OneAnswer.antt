@@ -10,7 +10,7 @@ use Rattle.laws.specs.Values.{listTo}
 use Rattle.grid.specs.Limits.{mostSmall}
 use Rattle.mesh.specs.Mesh.{trianglesOf}
 use Rattle.records.specs.Record.{recordOf}
-use Rattle.numbering.proofs.OneNumbering.{one-numbering}
+use Rattle.shellnumbers.proofs.OneNumbering.{one-numbering}
 use Rattle.closed.specs.Left.{Mesh}
 use Rattle.listing.specs.Listing.{numbersOf}
 use Rattle.gridtext.specs.Grid.{samplesOf, granted, readGrid}

@@ -13,7 +13,7 @@ use Rattle.grid.specs.Work.{size}
 use Rattle.extract.specs.Outcome.{Rooms, pointList, triangleList, pointRoom, triangleRoom, granted, measured, extracted}
 use Rattle.mesh.specs.Mesh.{triangleCount, trianglesOf}
 use Rattle.mesh.specs.Check.{meshNumber}
-use Rattle.smooth.specs.Round.{rounds}
+use Rattle.rounds.specs.Round.{rounds}
 use Rattle.smooth.specs.Smooth.{roomsFit, smoothNumber, smoothed}
 use Rattle.small.specs.Sizes.{mostPoints, mostTriangles}
 use Rattle.small.proofs.Few.{few-points, few-triangles}

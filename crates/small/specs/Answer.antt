@@ -11,7 +11,7 @@ use Rattle.grid.specs.Grid.{axes, isAboveGrey, mark}
 use Rattle.grid.specs.Point.{pointEdges, place}
 use Rattle.grid.specs.Mesh.{mesh}
 use Rattle.mesh.specs.Mesh.{trianglesOf}
-use Rattle.numbering.specs.Numbering.{Numbering}
+use Rattle.shellnumbers.specs.Numbering.{Numbering}
 use Rattle.records.specs.Record.{recordOf}
 use Rattle.closed.specs.Left.{Mesh, smoothed}
 use Rattle.listing.specs.Listing.{numbersOf}

@@ -14,8 +14,8 @@ use Rattle.mesh.specs.Neighbours.{neighbours, shareSide}
 use Rattle.neighbours.specs.Lists.{listOf, startOf, Listed, Lists}
 use Rattle.neighbours.proofs.Listing.{list-below, start-next, starts-most}
 use Rattle.neighbours.proofs.Summed.{list-sum, list-length}
-use Rattle.smooth.specs.Round.{coordinateOf, movedFrom, round}
-use Rattle.smooth.specs.Steps.{Held, SameTo, heldSum, heldStart, heldCount, heldPoint, heldRound}
+use Rattle.rounds.specs.Round.{coordinateOf, movedFrom, round}
+use Rattle.rounds.specs.Steps.{Held, SameTo, heldSum, heldStart, heldCount, heldPoint, heldRound}
 
 module _ (ts : List ℕ) (v at size : ℕ) (ok : Lists ts v at size) (work : List ℕ) (h : Listed ts v at work) where
   last : (p : ℕ) → p < v → getD work (at + p + 1) 0 ≡ startOf ts p + length (listOf ts p)

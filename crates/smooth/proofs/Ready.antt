@@ -11,9 +11,9 @@ use Rattle.mesh.specs.Mesh.{triangleCount, trianglesOf}
 use Rattle.mesh.proofs.Passed.{Passed}
 use Rattle.grid.specs.Limits.{mostWeight}
 use Rattle.neighbours.specs.Lists.{Listed, Lists}
-use Rattle.smooth.specs.Round.{round, rounds}
-use Rattle.smooth.specs.Steps.{Small, SameTo, CopiedFrom, Held, heldRound}
-use Rattle.smooth.proofs.Within.{rounds-small, length-rounds}
+use Rattle.rounds.specs.Round.{round, rounds}
+use Rattle.rounds.specs.Steps.{Small, SameTo, CopiedFrom, Held, heldRound}
+use Rattle.rounds.proofs.Within.{rounds-small, length-rounds}
 use Rattle.smooth.proofs.Linked.{lists-held, round-held, listed-kept}
 
 rounds-next : (ts : List Triangle) (marks : List ℕ) (w k : ℕ) (points : List ℕ) → rounds ts marks w (k + 1) points ≡ round ts marks w (rounds ts marks w k points)

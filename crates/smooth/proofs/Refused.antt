@@ -9,7 +9,7 @@ use borrow.Author.Tests.{eq-eqb, ne-eqb, le-leb, lt-leb}
 use Rattle.grid.specs.Limits.{mostRounds, mostWeight}
 use Rattle.mesh.specs.Mesh.{triangleCount, trianglesOf}
 use Rattle.mesh.specs.Check.{meshNumber}
-use Rattle.smooth.specs.Round.{rounds}
+use Rattle.rounds.specs.Round.{rounds}
 use Rattle.smooth.specs.Smooth.{roomsFit, smoothNumber, smoothed}
 use Rattle.smooth.specs.Promise.{Smooths}
 

@@ -1,7 +1,3 @@
--- Smoothing, and one point shown (document 01, "Smoothing").
-pub mod Round
+-- Smoothing: what a call leaves behind, and what it promises (document 01, "Smoothing").
 pub mod Smooth
-pub mod Steps
-pub mod Trap
-pub mod Show
 pub mod Promise

@@ -7,7 +7,7 @@ use lib.ListN.{length, replicate}
 use Rattle.grid.specs.Limits.{mostRounds, mostWeight}
 use Rattle.mesh.specs.Mesh.{triangleCount, trianglesOf}
 use Rattle.mesh.specs.Check.{meshNumber}
-use Rattle.smooth.specs.Round.{rounds}
+use Rattle.rounds.specs.Round.{rounds}
 
 -- the number that is answered, and the whole content of the second point list and of the work room
 pub record Outcome : Type 0 where

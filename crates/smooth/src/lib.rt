@@ -1,17 +1,14 @@
-// Smoothing, and one point shown out of either list.
+// Smoothing.
 ghost use mathlib.Core.Path.{_≡_};
 ghost use Prim.Native.Nat.{_+_, _*_, _≤_};
 ghost use lib.ListN.{length, replicate};
 ghost use Rattle.grid.specs.Limits.{mostRounds, mostWeight};
 ghost use Rattle.mesh.specs.Mesh.{triangleCount, trianglesOf};
 ghost use Rattle.mesh.specs.Check.{meshNumber};
-ghost use Rattle.smooth.specs.Round.{rounds as roundsOf};
-ghost use Rattle.smooth.specs.Promise.{Smooths, Shown};
+ghost use Rattle.rounds.specs.Round.{rounds as roundsOf};
+ghost use Rattle.smooth.specs.Promise.{Smooths};
 use grid::limits::MOST_ROUNDS;
 use grid::limits::MOST_WEIGHT;
-
-mod rounds;
-
 use rounds::copy;
 use rounds::round;
 
@@ -76,37 +73,4 @@ pub fn smooth(
     }
     granted(points, triangles, marks, rounds, weight, smoothed, work);
     0
-}
-
-// The three coordinates of one point as a part of one of the two lists: of the second, the smoothed, if so asked, else of
-// the raw. The number goes into the lent number; a refused call shows an empty part.
-pub fn show<'a>(
-    raw: &'a [u32],
-    smoothed: &'a [u32],
-    second: bool,
-    point: u32,
-    number: &mut u32,
-) -> &'a [u32]
-    ensures { λ r. ⌜ Shown (now (raw .entry)) (now (smoothed .entry)) second point (now r) (now (number .exit)) ⌝ }
-{
-    let count = raw.len();
-    if count != smoothed.len() {
-        *number = 6;
-        return &raw[..0];
-    }
-    if count % 3 != 0 {
-        *number = 6;
-        return &raw[..0];
-    }
-    if count / 3 <= point as usize {
-        *number = 14;
-        return &raw[..0];
-    }
-    *number = 0;
-    let at = 3 * (point as usize);
-    if second {
-        &smoothed[at..at + 3]
-    } else {
-        &raw[at..at + 3]
-    }
 }

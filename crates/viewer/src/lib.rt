@@ -1,9 +1,10 @@
 // The C functions that a viewer links. Each is a thin call of the one below it.
 ghost use Rattle.cube.specs.Promise.{Counted, EdgeRead};
 ghost use Rattle.extract.specs.Promise.{rooms, left, Extracts};
-ghost use Rattle.smooth.specs.Promise.{Smooths, Shows};
+ghost use Rattle.smooth.specs.Promise.{Smooths};
+ghost use Rattle.show.specs.Promise.{Shows};
 ghost use Rattle.curvature.specs.Promise.{left as curvesLeft, Curves, Tells};
-ghost use Rattle.numbering.specs.Lists.{left as shellsLeft};
+ghost use Rattle.shellnumbers.specs.Lists.{left as shellsLeft};
 ghost use Rattle.shells.specs.Promise.{Shells};
 ghost use mathlib.Core.List.{[], _∷_};
 use curvature::Reading;
@@ -96,7 +97,7 @@ pub extern "C" fn tholbrina_show<'a>(
     ensures { λ r. ⌜ Shows (now (raw .entry)) (now (smoothed .entry)) second point (now (x .entry) ∷ now (y .entry) ∷ now (z .entry) ∷ []) r (now (x .exit) ∷ now (y .exit) ∷ now (z .exit) ∷ []) ⌝ }
 {
     let mut number = 0;
-    let part = smooth::show(raw, smoothed, second != 0, point, &mut number);
+    let part = show::show(raw, smoothed, second != 0, point, &mut number);
     if number == 0 {
         *x = part[0];
         *y = part[1];

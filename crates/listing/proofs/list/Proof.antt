@@ -9,9 +9,9 @@ use denote.Builtin.{i64}
 use Rattle.walks.proofs.Slices.{uint-elem, Mut as MutOf, ref as refOf, lends, comes}
 use Rattle.shells.proofs.Records.{E, R, EL, RL, tyL, vals as vals-of, typed}
 use Rattle.records.specs.declared.Shell.{Shell}
-use Rattle.numbering.specs.declared.Listed.{Listed}
+use Rattle.shellnumbers.specs.declared.Listed.{Listed}
 use Rattle.records.specs.Grown.{none}
-use Rattle.numbering.specs.Lists.{left}
+use Rattle.shellnumbers.specs.Lists.{left}
 use Rattle.shells.specs.Promise.{Shells}
 use Rattle.listing.specs.Listing.{mostListed, numbersHanded, volumesHanded, Listing}
 use Rattle.walks.proofs.Lent.{sint-elem, big-lit, typed-repeat, spreads, gathers, lends-local, local-back, shares-local, local-same}

@@ -1,4 +1,4 @@
--- `shells::lowest` meets its contract, either way out. Assumes nothing.
+-- `records::lowest` meets its contract, either way out. Assumes nothing.
 use borrow.Author.Tests.{eq-eqb, ne-eqb}
 use borrow.Author.Needs.{needs}
 use Rattle.records.proofs.lowest.Statement.{statement}

@@ -1,4 +1,4 @@
--- `shells::number_of` meets its contract: the first corner is below the count of points. Assumes nothing.
+-- `records::number_of` meets its contract: the first corner is below the count of points. Assumes nothing.
 use mathlib.Core.Path.{ap, _∙_}
 use native.Mathlib.Omega.{arith}
 use lib.ListN.{length, getD}

@@ -1,4 +1,4 @@
--- `shells::touched` meets its contract, either way out. Assumes nothing.
+-- `records::touched` meets its contract, either way out. Assumes nothing.
 use borrow.Author.Tests.{eq-eqb, ne-eqb}
 use Rattle.records.proofs.touched.Statement.{statement}
 use Rattle.records.proofs.touched.Tie as tie

@@ -1,4 +1,4 @@
--- `shells::with_point` meets its contract: what it asked of the lowest point and the touches is what the definition says. Assumes nothing.
+-- `records::with_point` meets its contract: what it asked of the lowest point and the touches is what the definition says. Assumes nothing.
 use Rattle.records.specs.Grown.{withPoint, PointFits}
 use borrow.Author.Needs.{needs}
 use Rattle.records.proofs.with_point.Statement.{statement}

@@ -1,4 +1,4 @@
--- `shells::with_triangle` meets its contract: the determinant is added, and the sum fits. Assumes nothing.
+-- `records::with_triangle` meets its contract: the determinant is added, and the sum fits. Assumes nothing.
 use mathlib.Core.Path.{_≡_, ap, sym, _∙_, subst}
 use lib.IntN.{ℤ, _+ℤ_}
 use mir.Syntax.{w64}

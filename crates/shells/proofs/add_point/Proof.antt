@@ -4,7 +4,7 @@ use Rattle.walks.proofs.Walk.{_≡_, refl, ap, ℕ, _<_, _^_, List, [], _∷_, 
 use Rattle.walks.proofs.Slices.{Mut as MutOf, fits-at, place-at, opens-at, backs-at, puts-at}
 use Rattle.shells.proofs.Records.{E, R, ty, vals as vals-of, typed, makes-it, same, is-of}
 use Rattle.records.specs.declared.Shell.{Shell}
-use Rattle.numbering.specs.Numbering.{numberOf}
+use Rattle.shellnumbers.specs.Numbering.{numberOf}
 use Rattle.records.specs.Grown.{none, withPoint}
 use Rattle.shells.specs.Filled.{PointTurn}
 use Rattle.records.proofs.number_at as number-at

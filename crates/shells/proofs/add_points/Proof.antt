@@ -4,7 +4,7 @@ use Rattle.walks.proofs.Walk.{_≡_, refl, _∙_, ap, ℕ, _+_, _-_, _<_, _≤_
 use Rattle.walks.proofs.Slices.{Mut as MutOf, ref as refOf, ref-ty, lends, comes}
 use Rattle.shells.proofs.Records.{E, R, typed, Mut}
 use Rattle.records.specs.declared.Shell.{Shell}
-use Rattle.numbering.specs.Numbering.{numberOf}
+use Rattle.shellnumbers.specs.Numbering.{numberOf}
 use Rattle.records.specs.Grown.{withPoint}
 use Rattle.shells.specs.Filled.{changed, pointsAdded, PointsFit}
 use Rattle.shells.proofs.Growing.{length-points, points-next}

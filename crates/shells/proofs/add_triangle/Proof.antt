@@ -5,7 +5,7 @@ use Rattle.walks.proofs.Slices.{Mut as MutOf, fits-at, place-at, opens-at, back
 use Rattle.shells.proofs.Records.{E, R, ty, vals as vals-of, typed, makes-it, same, is-of}
 use Rattle.records.specs.declared.Shell.{Shell}
 use Rattle.mesh.specs.Mesh.{triangleAt}
-use Rattle.numbering.specs.Numbering.{numberOf}
+use Rattle.shellnumbers.specs.Numbering.{numberOf}
 use Rattle.records.specs.Record.{sixfold}
 use Rattle.records.specs.Grown.{none, withTriangle}
 use Rattle.shells.specs.Filled.{TriangleTurn}

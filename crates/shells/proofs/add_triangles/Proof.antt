@@ -5,7 +5,7 @@ use Rattle.walks.proofs.Slices.{Mut as MutOf, ref as refOf, ref-ty, lends, come
 use Rattle.shells.proofs.Records.{E, R, typed, Mut}
 use Rattle.records.specs.declared.Shell.{Shell}
 use Rattle.mesh.specs.Mesh.{triangleCount, triangleAt}
-use Rattle.numbering.specs.Numbering.{numberOf}
+use Rattle.shellnumbers.specs.Numbering.{numberOf}
 use Rattle.records.specs.Record.{sixfold}
 use Rattle.records.specs.Grown.{withTriangle}
 use Rattle.shells.specs.Filled.{changed, trianglesAdded, TrianglesFit}

@@ -4,16 +4,16 @@ use Rattle.walks.proofs.Walk.{_≡_, refl, ap, subst, ℕ, _<_, _≤_, _^_, ari
 use Rattle.walks.proofs.Slices.{uint-elem, Mut as MutOf, ref as refOf, ref-ty, lends, comes, shares-out, shares-back}
 use Rattle.shells.proofs.Records.{E, R, EL, RL, tyL, typed, tells}
 use Rattle.records.specs.declared.Shell.{Shell}
-use Rattle.numbering.specs.declared.Listed.{Listed}
-use Rattle.numbering.specs.Lists.{left, Lists}
+use Rattle.shellnumbers.specs.declared.Listed.{Listed}
+use Rattle.shellnumbers.specs.Lists.{left, Lists}
 use Rattle.shells.specs.Promise.{Shells}
 use Rattle.shells.specs.Filled.{filled}
 use Rattle.shells.proofs.Ending.{given, none-given, ends-early, enough, can-fill, ends-granted}
 use Rattle.shells.proofs.shells.Code.Mir as mir
-use Rattle.numbering.proofs.list_numbers as list-numbers
-use Rattle.numbering.proofs.list_numbers.Symbol as list-numbers-def
-use Rattle.numbering.proofs.list_numbers.Symbol.{name as #list-numbers}
-use Rattle.numbering.proofs.list_numbers.Met as list-numbers-thm
+use Rattle.shellnumbers.proofs.list_numbers as list-numbers
+use Rattle.shellnumbers.proofs.list_numbers.Symbol as list-numbers-def
+use Rattle.shellnumbers.proofs.list_numbers.Symbol.{name as #list-numbers}
+use Rattle.shellnumbers.proofs.list_numbers.Met as list-numbers-thm
 use Rattle.shells.proofs.fill as fill
 use Rattle.shells.proofs.fill.Symbol as fill-def
 use Rattle.shells.proofs.fill.Symbol.{name as #fill}
@@ -215,5 +215,5 @@ shells-spec 𝓤 H 𝓜 𝓖 𝓡 =
     entered 𝓤 H (tripleOf 𝓤 H (𝓖 .A) f.signature (f.spec 𝓤 H (𝓖 .A) (𝓜 .mem) (𝓡 .run)))
     (tables 𝓤 H 𝓜 𝓡 code.env .C) (tables 𝓤 H 𝓜 𝓡 code.env .Λ) #name code.function (code.unfolded 𝓤 H 𝓜 𝓡)
     (meets 𝓤 H (𝓖 .A) (givenOf 𝓤 H 𝓜 𝓖) (𝓜 .mem) (𝓡 .run) (tablesOf 𝓤 H 𝓜 (tables 𝓤 H 𝓜 𝓡 code.env))
-    (cited 𝓤 H (ListNumbers 𝓤 H (𝓖 .A) (𝓜 .mem) (𝓡 .run)) 𝓜 𝓡 code.env #list-numbers list-numbers-def.routine code.calls-numbering·list-numbers (list-numbers-thm.met 𝓤 H 𝓜 𝓖 𝓡))
+    (cited 𝓤 H (ListNumbers 𝓤 H (𝓖 .A) (𝓜 .mem) (𝓡 .run)) 𝓜 𝓡 code.env #list-numbers list-numbers-def.routine code.calls-shellnumbers·list-numbers (list-numbers-thm.met 𝓤 H 𝓜 𝓖 𝓡))
     (cited 𝓤 H (Fill 𝓤 H (𝓖 .A) (𝓜 .mem) (𝓡 .run)) 𝓜 𝓡 code.env #fill fill-def.routine code.calls-shells·fill (fill-thm.met 𝓤 H 𝓜 𝓖 𝓡)))

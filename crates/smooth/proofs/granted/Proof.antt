@@ -8,8 +8,8 @@ use mir.Val.{Fits}
 use Rattle.mesh.specs.Mesh.{triangleCount, trianglesOf}
 use Rattle.mesh.proofs.Passed.{Passed, passed}
 use Rattle.neighbours.specs.Lists.{Listed}
-use Rattle.smooth.specs.Round.{rounds as roundsOf}
-use Rattle.smooth.proofs.Within.{length-rounds}
+use Rattle.rounds.specs.Round.{rounds as roundsOf}
+use Rattle.rounds.proofs.Within.{length-rounds}
 use Rattle.smooth.proofs.Ready.{lists-ready, copied-all, round-ready, round-more, lists-stay}
 use Rattle.smooth.proofs.granted.Statement.{statement}
 use Rattle.smooth.proofs.granted.Tie as tie

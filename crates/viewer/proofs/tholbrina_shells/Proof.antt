@@ -12,12 +12,12 @@ use denote.Struct.Laws as LL
 use denote.Triple.Walked.{stay-ref, goes-ref}
 use Rattle.walks.proofs.Slices.{uint-elem, Mut as MutOf, ref as refOf, lends, comes}
 use Rattle.shells.proofs.Records.{E, R, EL, RL, tyL}
-use Rattle.numbering.proofs.Listed as L
-use Rattle.numbering.proofs.Listed.Laws as L′
+use Rattle.shellnumbers.proofs.Listed as L
+use Rattle.shellnumbers.proofs.Listed.Laws as L′
 use Rattle.shells.proofs.Few.{few-shells}
 use Rattle.records.specs.declared.Shell.{Shell}
-use Rattle.numbering.specs.declared.Listed.{Listed}
-use Rattle.numbering.specs.Lists.{left}
+use Rattle.shellnumbers.specs.declared.Listed.{Listed}
+use Rattle.shellnumbers.specs.Lists.{left}
 use Rattle.shells.specs.Promise.{Shells}
 use Rattle.shells.proofs.shells as called
 use Rattle.shells.proofs.shells.Symbol as called-def

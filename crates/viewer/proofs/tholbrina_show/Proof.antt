@@ -1,7 +1,7 @@
 -- `viewer::tholbrina_show` meets its contract. Assumes nothing.
 use native.Mathlib.Omega.{arith}
 use borrow.Author.Needs.{needs}
-use Rattle.smooth.proofs.Shown.{three-shown, shown-instead, others-instead}
+use Rattle.show.proofs.Shown.{three-shown, shown-instead, others-instead}
 use Rattle.viewer.proofs.tholbrina_show.Statement.{statement}
 use Rattle.viewer.proofs.tholbrina_show.Tie as tie
 

@@ -5,7 +5,7 @@ use native.Mathlib.Omega.{arith}
 use lib.ListN.{length, take}
 use lib.Seq.{length-take-le}
 use borrow.Author.Needs.{needs}
-use Rattle.numbering.specs.Lists.{left}
+use Rattle.shellnumbers.specs.Lists.{left}
 use Rattle.small.proofs.Listed.{Told, told, numbers-many, volumes-many, mesh-printed}
 use Rattle.small.proofs.answer.write_listed.Statement.{statement}
 use Rattle.small.proofs.answer.write_listed.Tie as tie

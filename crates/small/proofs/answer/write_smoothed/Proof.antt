@@ -7,8 +7,8 @@ use lib.ListN.{length, take, drop, length-append}
 use lib.Seq.{length-take-le, take-at}
 use borrow.Author.Needs.{needs}
 use Rattle.mesh.specs.Mesh.{trianglesOf}
-use Rattle.smooth.specs.Round.{rounds}
-use Rattle.smooth.proofs.Within.{smoothed-passes}
+use Rattle.rounds.specs.Round.{rounds}
+use Rattle.rounds.proofs.Within.{smoothed-passes}
 use Rattle.closed.specs.Left.{smoothed}
 use Rattle.small.specs.Answer.{Prints}
 use Rattle.small.specs.Promise.{meshOf}

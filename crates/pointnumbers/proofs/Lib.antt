@@ -1,0 +1,2 @@
+-- Steps of the numbering.
+pub mod Numbering

@@ -1,0 +1,2 @@
+-- The work room while the points are numbered.
+pub mod Numbers

@@ -1,0 +1,34 @@
+// The points of a grid, numbered row by row from the masks of its rows.
+ghost use mathlib.Core.Path.{_≡_};
+ghost use lib.ListN.{length};
+ghost use Rattle.grid.specs.Grid.{axes, edgeCount};
+ghost use Rattle.grid.specs.Point.{pointEdges};
+ghost use Rattle.grid.specs.Work.{size, SidesFit, Numbered};
+ghost use Rattle.masks.specs.Masks.{maskAbove};
+
+mod numbers;
+
+use numbers::number_layer;
+use rows::Sides;
+
+// Writes the number of its point at each crossed edge of the work room, and answers how many points there are.
+pub fn number(nx: usize, ny: usize, nz: usize, masks: &[u64; 4096], work: &mut [u32]) -> u32
+    requires { ⌜ SidesFit nx ny nz ⌝ }
+    requires { ⌜ length (now work) ≡ edgeCount axes (size nx ny nz) ⌝ }
+    ensures counted { λ r. ⌜ r ≡ length (pointEdges axes (size nx ny nz) (maskAbove nx (now (masks .entry)))) ⌝ }
+    ensures numbered { λ r. ⌜ Numbered (size nx ny nz) (maskAbove nx (now (masks .entry))) (now (work .exit)) ⌝ }
+{
+    let sides = Sides {
+        nx,
+        ny,
+        nz,
+        full: masks::full_mask(nx),
+    };
+    let mut n: u32 = 0;
+    let mut z: usize = 0;
+    while z < nz {
+        n = number_layer(sides, z, n, masks, work);
+        z += 1;
+    }
+    n
+}

@@ -1,0 +1,213 @@
+-- Steps of the placing: a point more, the edges of a sample, and a run of edges that are not crossed.
+use mathlib.Core.Path.{_≡_, refl, ap, fun-ext, _∙_}
+use mathlib.Core.List.{List, [], _∷_, _++_, map, flatMap, map-append, map-map, map-id, append-nil}
+use mathlib.Core.Bool.{Bool, true, false, cond}
+use Prim.Native.Nat.{ℕ, _+_, _*_, _/_, _%_, _^_, _<_, _≤_}
+use native.Mathlib.Nat.{div-le-self}
+use native.Mathlib.Omega.{arith}
+use lib.ListN.{length, getD, length-map}
+use lib.Seq.{sets}
+use Rattle.laws.specs.Nearest.{nearest}
+use Rattle.laws.specs.Range.{one-if, sumTo, countTo, joinTo, keepTo}
+use Rattle.laws.specs.Room.{laid}
+use Rattle.laws.proofs.Keep.{length-keep, keep-next, count-next}
+use Rattle.laws.proofs.Ranges.{count-split, length-flat}
+use Rattle.laws.proofs.Writes.{sets-front}
+use Rattle.grid.specs.Limits.{unit}
+use Rattle.grid.specs.Grid.{Size, axes, otherEnd, edgeCount, crossed, mark, onFace}
+use Rattle.grid.specs.Point.{apart, offset, number, pointEdges, place, placeFrom}
+use Rattle.masks.specs.Masks.{maskAbove}
+use Rattle.rows.specs.declared.Sides.{Sides}
+use Rattle.rows.specs.declared.Cuts.{Cuts}
+use Rattle.pointplaces.specs.declared.places.Point.{Point}
+use Rattle.rows.specs.Rows.{sizeOf}
+use Rattle.rows.specs.Rows.{nextNumber}
+use Rattle.pointplaces.specs.Places.{Rooms, coordinates, written, withPoint, stepOf, pointBy, pointFrom, pointAt, pointsBelow, countBelow, RoomsFor, Placeable, SamplePlaced, Advanced}
+use Rattle.rows.proofs.Cut.{Tested}
+use Rattle.laws.proofs.Ranges.{count-none, keep-none}
+use Rattle.laws.proofs.Lists.{flat-map}
+use Rattle.laws.proofs.Writes.{flat-sets, map-sets}
+
+-- the offset of samples of sixteen bits is far below what a coordinate's type holds
+pub offset-small : (v0 v1 grey : ℕ) → v0 < 2 ^ 16 → v1 < 2 ^ 16 → grey < 2 ^ 16 → offset v0 v1 grey < 2 ^ 26
+unfolding offset nearest
+offset-small v0 v1 grey a b c = omega (arith, div-le-self (2 * (unit * apart grey v0) + apart v1 v0) (2 * apart v1 v0))
+
+-- the point that was written, made from the samples that were read, as the definition has it
+pub point-written : (n : Size) (grey : ℕ) (samples : List ℕ) (s axis step number far : ℕ) (p : Point) (before after : Rooms) → step ≡ stepOf n axis
+    → far ≡ offset (getD samples s 0) (getD samples (s + step) 0) grey → p ≡ pointBy n s axis far → after ≡ written before number (p ∷ [])
+    → after ≡ written before number (pointFrom n grey samples s axis ∷ [])
+unfolding pointFrom otherEnd
+point-written n grey samples s axis step number far p before after is read made done = rw (done, made, read, is)
+
+-- rooms that keep their lengths keep their room
+pub record SameLengths (before after : Rooms) : Type 0 where
+  pub points : length (after .points) ≡ length (before .points)
+  pub edges : length (after .edges) ≡ length (before .edges)
+  pub marks : length (after .marks) ≡ length (before .marks)
+
+pub room-kept : (count : ℕ) (before after : Rooms) → SameLengths before after → RoomsFor count before → RoomsFor count after
+room-kept count before after same fits =
+    record { points = omega (arith, fits .points); edges = omega (arith, fits .edges); marks = omega (arith, fits .marks) }
+
+-- what it takes to place a point stands when another edge was passed
+pub still-placeable : (size : Size) (samples : List ℕ) (s axis n next : ℕ) (before after : Rooms) → SameLengths before after → next ≡ n
+    → Placeable size samples s axis n before → Placeable size samples s axis next after
+still-placeable size samples s axis n next before after same is able =
+    rw is record { there = able .there; differ = able .differ; room = room-kept (n + 1) before after same (able .room) }
+
+-- the three edges of a sample one after the other
+pub sample-steps : (sides : Sides) (grey : ℕ) (samples : List ℕ) (s n : ℕ) (cuts : Cuts) (r : Rooms) (x y z : ℕ) (past-x past-y past-z : Rooms)
+    → x ≡ nextNumber (cuts .x) n → past-x ≡ withPoint (cuts .x) n (pointFrom (sizeOf sides) grey samples s 0) r
+    → y ≡ nextNumber (cuts .y) x → past-y ≡ withPoint (cuts .y) x (pointFrom (sizeOf sides) grey samples s 1) past-x
+    → z ≡ nextNumber (cuts .z) y → past-z ≡ withPoint (cuts .z) y (pointFrom (sizeOf sides) grey samples s 2) past-y
+    → SamplePlaced sides grey samples s n z cuts r past-z
+sample-steps sides grey samples s n cuts r x y z past-x past-y past-z nx px ny py nz pz = record { counted = cc; placed = cc }
+
+-- points written after others
+written-append : (r : Rooms) (n next : ℕ) (ps qs : List Point) → next ≡ n + length ps → written (written r n ps) next qs ≡ written r n (ps ++ qs)
+unfolding written
+written-append r n next ps qs is = λ i. record {
+  points = flat-sets 3 coordinates (λ p. refl) (r .points) n next ps qs is i;
+  edges = map-sets (λ p. p .edge) (r .edges) n next ps qs is i;
+  marks = map-sets (λ p. p .mark) (r .marks) n next ps qs is i;
+}
+
+module _ (sides : Sides) (grey : ℕ) (samples masks : List ℕ) where
+  abbrev cut : ℕ → Bool
+  cut = crossed axes (sizeOf sides) (maskAbove (sides .nx) masks)
+
+  abbrev below : ℕ → List Point
+  below = pointsBelow sides grey samples masks
+
+  abbrev point : ℕ → Point
+  point = pointAt (sizeOf sides) grey samples
+
+  -- as many as were counted, and one edge more
+  length-below : (e : ℕ) → length (below e) ≡ countBelow sides masks e
+  unfolding pointsBelow number
+  length-below e = length-map (keepTo e cut) point ∙ length-keep e cut
+
+  below-next : (e : ℕ) (b : Bool) → cut e ≡ b → below (e + 1) ≡ below e ++ cond b (point e ∷ []) []
+  unfolding pointsBelow
+  below-next e true is = ap (map point) (keep-next e cut) ∙ rw is (map-append point (keepTo e cut) (e ∷ []))
+  below-next e false is = ap (map point) (keep-next e cut) ∙ rw is (map-append point (keepTo e cut) [])
+
+  pub count-next-edge : (e : ℕ) → countBelow sides masks (e + 1) ≡ nextNumber (cut e) (countBelow sides masks e)
+  unfolding number
+  count-next-edge e = count-next e cut
+
+  -- an edge is passed
+  edge-passed : (e past n : ℕ) (r : Rooms) (b : Bool) (p : Point) → past ≡ e + 1 → n ≡ countBelow sides masks e → cut e ≡ b → p ≡ point e
+      → Advanced sides grey samples masks e past (nextNumber b n) r (withPoint b n p r)
+  edge-passed e past n r b p next counted is here = rw next record {
+    counted = omega (arith, count-next-edge e, ap one-if is, counted);
+    placed = λ origin held. placed b is origin held;
+  }
+    where
+      placed : (b : Bool) → cut e ≡ b → (origin : Rooms) → r ≡ written origin 0 (below e) → withPoint b n p r ≡ written origin 0 (below (e + 1))
+      placed true is origin held =
+          rw (held, here, below-next e true is) (written-append origin 0 n (below e) (point e ∷ []) (omega (arith, counted, length-below e)))
+      placed false is origin held = rw (below-next e false is, append-nil) held
+
+  -- a run of edges that are not crossed is passed
+  pub none-passed : (e n : ℕ) (r : Rooms) → n ≡ countBelow sides masks e → (len : ℕ) → ((i : ℕ) → i < len → cut (e + i) ≡ false)
+      → Advanced sides grey samples masks e (e + len) n r r
+  unfolding pointsBelow number
+  none-passed e n r counted len none = record {
+    counted = omega (arith, counted, count-split e len cut, count-none len (λ i. cut (e + i)) none);
+    placed = λ origin held. rw (keep-none e len cut none) held;
+  }
+
+  -- no edge, and one run after another
+  pub advanced-none : (e n : ℕ) (r : Rooms) → n ≡ countBelow sides masks e → Advanced sides grey samples masks e e n r r
+  advanced-none e n r counted = record { counted = counted; placed = λ origin held. held }
+
+  pub advanced-on : (a b c m n : ℕ) (r s t : Rooms) → Advanced sides grey samples masks a b m r s → Advanced sides grey samples masks b c n s t
+      → Advanced sides grey samples masks a c n r t
+  advanced-on a b c m n r s t one two = record { counted = two .counted; placed = λ origin held. two .placed origin (one .placed origin held) }
+
+  -- the three edges that leave a sample
+  point-of : (s axis e : ℕ) → axis < 3 → e ≡ 3 * s + axis → pointFrom (sizeOf sides) grey samples s axis ≡ point e
+  unfolding pointAt
+  point-of s axis e h is =
+      let sample : e / 3 ≡ s = omega arith in
+      let along : e % 3 ≡ axis = omega arith in
+      rw (sample, along)
+
+  pub sample-passed : (s e n next : ℕ) (cuts : Cuts) (r after : Rooms) → e ≡ 3 * s → n ≡ countBelow sides masks e → Tested sides masks e cuts
+      → SamplePlaced sides grey samples s n next cuts r after → Advanced sides grey samples masks e (e + 3) next r after
+  sample-passed s e n next cuts r after is counted by step =
+      let px = point-of s 0 e (omega arith) (omega arith) in
+      let py = point-of s 1 (e + 1) (omega arith) (omega arith) in
+      let pz = point-of s 2 (e + 2) (omega arith) (omega arith) in
+      let two : e + 2 ≡ e + 1 + 1 = omega arith in
+      let three : e + 3 ≡ e + 2 + 1 = omega arith in
+      let x = edge-passed e (e + 1) n r (cuts .x) _ refl counted (by .along-x) px in
+      let y = edge-passed (e + 1) (e + 2) _ _ (cuts .y) _ two (x .counted) (by .along-y) py in
+      let z = edge-passed (e + 2) (e + 3) _ _ (cuts .z) _ three (y .counted) (by .along-z) pz in
+      rw (step .counted, step .placed) (advanced-on e (e + 1) (e + 3) _ _ r _ _ x (advanced-on (e + 1) (e + 2) (e + 3) _ _ _ _ _ y z))
+
+  -- before the first edge
+  pub none-below : 0 ≡ countBelow sides masks 0
+  unfolding number countTo sumTo
+  none-below = refl
+
+  none-written : (r : Rooms) → r ≡ written r 0 (below 0)
+  unfolding written pointsBelow keepTo joinTo flatMap
+  none-written r = refl
+
+  -- from the first edge to past the last
+  pub all-placed : (first past n : ℕ) (r after : Rooms) → first ≡ 0 → past ≡ edgeCount axes (sizeOf sides)
+      → Advanced sides grey samples masks first past n r after → after ≡ written r 0 (below (edgeCount axes (sizeOf sides)))
+  all-placed first past n r after none all so =
+      let from-first = rw (none, all) at so in
+      from-first .placed r (none-written r)
+
+  -- the rooms hold as many points as there are crossed edges
+  pub room-for-all : (r : Rooms) → RoomsFor (length (pointEdges axes (sizeOf sides) (maskAbove (sides .nx) masks))) r → RoomsFor (countBelow sides masks (edgeCount axes (sizeOf sides))) r
+  unfolding pointEdges number
+  room-for-all r fits = rw (length-keep (edgeCount axes (sizeOf sides)) cut) at fits
+
+  -- a point's parts are the definitions' place, edge and mark
+  places-of : (es : List ℕ) → flatMap coordinates (map point es) ≡ flatMap (place axes (sizeOf sides) grey samples) es
+  unfolding pointAt pointFrom pointBy place placeFrom
+  places-of es = flat-map coordinates point (place axes (sizeOf sides) grey samples) (λ e. refl) es
+
+  edges-of : (es : List ℕ) → map (λ p. p .edge) (map point es) ≡ es
+  unfolding pointAt pointFrom pointBy
+  edges-of es =
+      let same : _≡_ {A = ℕ → ℕ} (λ e. 3 * (e / 3) + e % 3) (λ e. e) = fun-ext (λ e. omega arith) in
+      map-map (λ p. p .edge) point es ∙ ap (λ f. map f es) same ∙ map-id es
+
+  marks-of : (es : List ℕ) → map (λ p. p .mark) (map point es) ≡ map (mark axes (sizeOf sides)) es
+  unfolding pointAt pointFrom pointBy mark onFace
+  marks-of es = map-map (λ p. p .mark) point es
+
+  length-places : (es : List ℕ) → length (flatMap (place axes (sizeOf sides) grey samples) es) ≡ 3 * length es
+  unfolding place
+  length-places es = length-flat 3 (place axes (sizeOf sides) grey samples) (λ e. refl) es
+
+  -- past the last edge the points are laid in the rooms
+  module _ (origin r : Rooms) (held : r ≡ written origin 0 (below (edgeCount axes (sizeOf sides)))) where
+    abbrev crossings : List ℕ
+    crossings = pointEdges axes (sizeOf sides) (maskAbove (sides .nx) masks)
+
+    pub places-laid : 3 * length crossings ≤ length (origin .points)
+        → r .points ≡ laid (flatMap (place axes (sizeOf sides) grey samples) crossings) (origin .points)
+    unfolding written pointsBelow pointEdges
+    places-laid fits =
+        ap (λ r. r .points) held
+        ∙ ap (sets (origin .points) 0) (places-of crossings)
+        ∙ sets-front (origin .points) (flatMap (place axes (sizeOf sides) grey samples) crossings) (omega (arith, length-places crossings))
+
+    pub edges-laid : length crossings ≤ length (origin .edges) → r .edges ≡ laid crossings (origin .edges)
+    unfolding written pointsBelow pointEdges
+    edges-laid fits = ap (λ r. r .edges) held ∙ ap (sets (origin .edges) 0) (edges-of crossings) ∙ sets-front (origin .edges) crossings fits
+
+    pub marks-laid : length crossings ≤ length (origin .marks) → r .marks ≡ laid (map (mark axes (sizeOf sides)) crossings) (origin .marks)
+    unfolding written pointsBelow pointEdges
+    marks-laid fits =
+        ap (λ r. r .marks) held
+        ∙ ap (sets (origin .marks) 0) (marks-of crossings)
+        ∙ sets-front (origin .marks) (map (mark axes (sizeOf sides)) crossings) (omega (arith, length-map crossings (mark axes (sizeOf sides))))

@@ -1,0 +1,132 @@
+-- `pointplaces::places::place_edge` meets its contract. Assumes nothing.
+use mathlib.Core.Path.{_≡_, refl}
+use mathlib.Core.Bool.{true, false}
+use Prim.Native.Nat.{_+_, _<_}
+use native.Mathlib.Omega.{arith}
+use denote.Ref.{now}
+use lib.ListN.{length, getD}
+use borrow.Author.Needs.{needs}
+use borrow.Author.Tests.{not-true, not-false}
+use Rattle.rows.specs.Rows.{sizeOf}
+use Rattle.pointplaces.specs.Places.{Rooms, rooms, Placeable}
+use Rattle.pointplaces.proofs.Placing.{offset-small, point-written}
+use Rattle.pointplaces.proofs.places.place_edge.Statement.{statement}
+use Rattle.pointplaces.proofs.places.place_edge.Tie as tie
+
+returns : tie.Need-returns
+returns c =
+    let a = c .before .before .before .before .before .args in
+    let uncrossed : a .cut ≡ false = not-true _ (c .if1 .taken) in
+    rw uncrossed (omega arith, refl)
+
+abbrev start : tie.Else1 → tie.Start
+start c = c .before .before .before .before .before
+
+-- past the test the edge is crossed, and its point can be placed
+crossed-here : (c : tie.Else1) → start c .args .cut ≡ true
+crossed-here c = not-false _ (c .if1 .left)
+
+able : (c : tie.Else1)
+    → let a = start c .args in
+    Placeable (sizeOf (a .sides)) (now (a .samples)) (a .at .s) (a .axis) (a .n) (rooms (now (a .points)) (now (a .edges)) (now (a .marks)))
+able c = start c .pre .1 .1 (crossed-here c)
+
+-- the other end is a sample too, and differs
+other-there : (c : tie.After-step-of) → let a = start (c .before) .args in a .at .s + c .step-of .result < length (now (a .samples))
+other-there c = rw (c .step-of .ensures) (able (c .before) .there)
+
+others-differ : (c : tie.After-step-of) → let a = start (c .before) .args in
+    getD (now (a .samples)) (a .at .s) 0 ≡ getD (now (a .samples)) (a .at .s + c .step-of .result) 0 → ⊥
+others-differ c = rw (c .step-of .ensures) (able (c .before) .differ)
+
+-- the rooms as they come, and past the write
+abbrev first-rooms : tie.Start → Rooms
+first-rooms s = rooms (now (s .args .points)) (now (s .args .edges)) (now (s .args .marks))
+
+abbrev past : tie.After-write-point → Rooms
+past c =
+    let last = c .write-point .last .1 .1 in
+    rooms (last .0) (last .1 .0) (last .1 .1 .0)
+
+step-of-requires : tie.Need-step-of-requires
+step-of-requires c κs = (start c .pre .0 .fit, start c .pre .1 .0)
+
+add-other : tie.Need-add-other
+add-other c = omega (arith, other-there c)
+
+mul-offset : tie.Need-mul-offset
+mul-offset c = omega (arith, other-there c)
+
+shared-slice-read-offset : tie.Need-shared-slice-read-offset
+shared-slice-read-offset c = omega (arith, other-there (c .before))
+
+mul-offset-2 : tie.Need-mul-offset-2
+mul-offset-2 c = omega (arith, other-there (c .before))
+
+shared-slice-read-offset-2 : tie.Need-shared-slice-read-offset-2
+shared-slice-read-offset-2 c = other-there (c .before .before)
+
+offset-requires : tie.Need-offset-requires
+offset-requires c κs = others-differ (c .before .before)
+
+point-on-requires : tie.Need-point-on-requires
+point-on-requires c κs =
+    let step = c .before .before .before in
+    let s = start (step .before) in
+    let v0 = c .before .before .shared-slice-known2 .given (s .args .at .s) .fits in
+    let v1 = c .before .shared-slice-known3 .given (s .args .at .s + step .step-of .result) .fits in
+    (s .pre .0, (s .pre .1 .0, rw (c .offset .ensures) (offset-small _ _ _ v0 v1 (s .fits .grey .fits))))
+
+write-point-requires : tie.Need-write-point-requires
+write-point-requires c κs = able (c .before .before .before .before .before .before .before .before) .room
+
+add-result : tie.Need-add-result
+add-result c =
+    let e = c .before .before .before .before .before .before .before .before .before .before .before .before .before .before .before in
+    omega (arith, able e .room .edges, start e)
+
+same-length : tie.Need-same-length
+same-length c = search needs
+
+same-length-2 : tie.Need-same-length-2
+same-length-2 c = search needs
+
+same-length-3 : tie.Need-same-length-3
+same-length-3 c = search needs
+
+returns-2 : tie.Need-returns-2
+returns-2 c =
+    let w = c .before .before .before .before .before .before in
+    let p = w .before .before .before .before in
+    let o = p .before in
+    let step = o .before .before .before in
+    let s = start (step .before) in
+    let a = s .args in
+    rw (crossed-here (step .before)) (
+      refl,
+      point-written (sizeOf (a .sides)) (a .grey) (now (a .samples)) (a .at .s) (a .axis) (step .step-of .result) (a .n) (o .offset .result) (p .point-on .result) (first-rooms s) (past w)
+          (step .step-of .ensures)
+          (o .offset .ensures)
+          (p .point-on .ensures)
+          (w .write-point .ensures),
+    )
+
+pub place-edge-spec : {M : Type 1} → statement M
+place-edge-spec =
+    tie.close
+    (tie.spec
+    returns
+    step-of-requires
+    add-other
+    mul-offset
+    shared-slice-read-offset
+    mul-offset-2
+    shared-slice-read-offset-2
+    offset-requires
+    point-on-requires
+    write-point-requires
+    add-result
+    same-length
+    same-length-2
+    same-length-3
+    returns-2)

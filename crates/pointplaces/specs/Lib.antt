@@ -1,0 +1,2 @@
+-- The points' rooms while the points are placed.
+pub mod Places

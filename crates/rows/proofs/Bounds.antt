@@ -1,0 +1,55 @@
+-- Rows, samples and edges are few enough for the rooms and the numbers that hold them; and where rows and layers begin.
+use mathlib.Core.Path.{_≡_}
+use Prim.Native.Nat.{ℕ, _+_, _*_, _<_, _≤_}
+use native.Mathlib.Nat.{mul-le-mul, mul-add, mul-one, mul-zero, add-zero, zero-add}
+use native.Mathlib.Omega.{arith}
+use Rattle.grid.specs.Grid.{axes, sampleCount, edgeCount}
+use Rattle.grid.specs.Work.{SidesFit}
+use Rattle.grid.proofs.Digits.{low-lt}
+use Rattle.rows.specs.declared.Sides.{Sides}
+use Rattle.rows.specs.Rows.{sizeOf, firstEdge}
+use Rattle.rows.specs.Rows.{mostEdges}
+
+-- a row of a grid, and the rows behind it and over it
+module _ (ny nz : ℕ) (most-y : ny ≤ 64) (most-z : nz ≤ 64) (y z : ℕ) where
+  pub row-small : y < ny → z < nz → y + ny * z < 4096
+  row-small hy hz = omega (arith, low-lt y ny z nz hy hz, mul-le-mul most-y most-z)
+
+  pub behind-small : y + 1 < ny → z < nz → y + ny * z + 1 < 4096
+  behind-small hy hz = omega (arith, low-lt (y + 1) ny z nz hy hz, mul-le-mul most-y most-z)
+
+  pub over-small : y < ny → z + 1 < nz → y + ny * z + ny < 4096
+  over-small hy hz = omega (arith, low-lt y ny (z + 1) nz hy hz, mul-le-mul most-y most-z, mul-add ny z 1, mul-one ny)
+
+-- the samples and the edges of a grid
+module _ (sides : Sides) (fit : SidesFit (sides .nx) (sides .ny) (sides .nz)) where
+  pub samples-few : sampleCount (sizeOf sides) ≤ 64 * 4096
+  samples-few =
+      let rows : sides .ny * sides .nz ≤ 64 * 64 = mul-le-mul (fit .most-y) (fit .most-z) in
+      mul-le-mul (fit .most-x) rows
+
+  pub edges-few : edgeCount axes (sizeOf sides) ≤ mostEdges
+  edges-few = omega (arith, samples-few)
+
+-- the samples of a row
+module _ (sides : Sides) (y z : ℕ) (hy : y < sides .ny) (hz : z < sides .nz) where
+  pub sample-small : (x : ℕ) → x < sides .nx → x + sides .nx * (y + sides .ny * z) < sampleCount (sizeOf sides)
+  sample-small x hx = low-lt x (sides .nx) (y + sides .ny * z) (sides .ny * sides .nz) hx (low-lt y (sides .ny) z (sides .nz) hy hz)
+
+-- where the first row, the next row and the next layer begin, and where the last layer ends
+module _ (sides : Sides) where
+  pub first-row : firstEdge sides 0 0 ≡ 0
+  first-row = simp (mul-zero, add-zero)
+
+  pub next-row : (y z : ℕ) → firstEdge sides (y + 1) z ≡ firstEdge sides y z + 3 * sides .nx
+  next-row y z =
+      let q : y + 1 + sides .ny * z ≡ y + sides .ny * z + 1 = omega arith in
+      rw q (omega (arith, mul-add (sides .nx) (y + sides .ny * z) 1, mul-one (sides .nx)))
+
+  pub next-layer : (z : ℕ) → firstEdge sides 0 (z + 1) ≡ firstEdge sides (sides .ny) z
+  next-layer z =
+      let q : 0 + sides .ny * (z + 1) ≡ sides .ny + sides .ny * z = omega (arith, mul-add (sides .ny) z 1, mul-one (sides .ny)) in
+      rw q
+
+  pub past-last : firstEdge sides 0 (sides .nz) ≡ edgeCount axes (sizeOf sides)
+  past-last = simp zero-add
