@@ -87,7 +87,10 @@ fn finish_point(mark: u8, area: f64, vectors: &mut [f64], at: usize)
 // All points.
 pub(crate) fn finish(marks: &[u8], areas: &[f64], vectors: &mut [f64])
     requires { ⌜ (length (now areas) ≡ length (now marks)) × (length (now vectors) ≡ 3 * length (now marks)) ⌝ }
-    ensures { λ _. ⌜ ((x : ℕ) → x < length (now (marks .entry)) → vectorAt (now (vectors .exit)) (3 * x) ≡ storedVector (answerFrom (getD (now (marks .entry)) x 0) (sumAt (now (areas .entry)) (now (vectors .entry)) x))) ⌝ }
+    ensures { λ _.
+        let before = sumAt (now (areas .entry)) (now (vectors .entry)) in
+        let marked = now (marks .entry) in
+        ⌜ ((x : ℕ) → x < length marked → vectorAt (now (vectors .exit)) (3 * x) ≡ storedVector (answerFrom (getD marked x 0) (before x))) ⌝ }
 {
     let mut i = 0;
     let mut at = 0;

@@ -17,7 +17,9 @@ pub fn curvature(
     areas: &mut [f64],
     vectors: &mut [f64],
 ) -> u32
-    ensures { λ r. ⌜ Curves (now (points .entry)) (now (triangles .entry)) (now (marks .entry)) (now (areas .entry)) (now (vectors .entry)) (left r (now (areas .exit)) (now (vectors .exit))) ⌝ }
+    ensures { λ r.
+        let after = left r (now (areas .exit)) (now (vectors .exit)) in
+        ⌜ Curves (now (points .entry)) (now (triangles .entry)) (now (marks .entry)) (now (areas .entry)) (now (vectors .entry)) after ⌝ }
 {
     let number = mesh::check(points, triangles, marks);
     if number != 0 {

@@ -61,7 +61,10 @@ fn measured(
     requires { ⌜ SidesFit nx ny nz ⌝ }
     requires { ⌜ length (now samples) ≡ sampleCount (size nx ny nz) ⌝ }
     requires { ⌜ length (now work) ≡ edgeCount axes (size nx ny nz) ⌝ }
-    ensures { λ r. ⌜ Measures nx ny nz grey (now (samples .entry)) (rooms (now (points .entry)) (now (edges .entry)) (now (marks .entry)) (now (triangles .entry)) (now (work .entry))) (left (r .number) (r .points) (r .triangles) (rooms (now (points .exit)) (now (edges .exit)) (now (marks .exit)) (now (triangles .exit)) (now (work .exit)))) ⌝ }
+    ensures { λ r.
+        let before = rooms (now (points .entry)) (now (edges .entry)) (now (marks .entry)) (now (triangles .entry)) (now (work .entry)) in
+        let after = rooms (now (points .exit)) (now (edges .exit)) (now (marks .exit)) (now (triangles .exit)) (now (work .exit)) in
+        ⌜ Measures nx ny nz grey (now (samples .entry)) before (left (r .number) (r .points) (r .triangles) after) ⌝ }
 {
     let mut masks = [0u64; 4096];
     masks::fill(samples, nx, ny * nz, grey, &mut masks);
@@ -97,7 +100,10 @@ pub fn extract(
     triangles: &mut [u32],
     work: &mut [u32],
 ) -> Extracted
-    ensures { λ r. ⌜ Extracts nx ny nz grey (now (samples .entry)) (rooms (now (points .entry)) (now (edges .entry)) (now (marks .entry)) (now (triangles .entry)) (now (work .entry))) (left (r .number) (r .points) (r .triangles) (rooms (now (points .exit)) (now (edges .exit)) (now (marks .exit)) (now (triangles .exit)) (now (work .exit)))) ⌝ }
+    ensures { λ r.
+        let before = rooms (now (points .entry)) (now (edges .entry)) (now (marks .entry)) (now (triangles .entry)) (now (work .entry)) in
+        let after = rooms (now (points .exit)) (now (edges .exit)) (now (marks .exit)) (now (triangles .exit)) (now (work .exit)) in
+        ⌜ Extracts nx ny nz grey (now (samples .entry)) before (left (r .number) (r .points) (r .triangles) after) ⌝ }
 {
     if !grid::sides_fit(nx, ny, nz) {
         return refused(1);

@@ -62,7 +62,10 @@ pub fn list(
     work: &mut [u32],
 ) -> Listed
     requires { ⌜ (4 * mostListed ≤ length (now records)) × (mostListed ≤ length (now volumes)) ⌝ }
-    ensures { λ r. ⌜ Listing (now (points .entry)) (now (triangles .entry)) (now (marks .entry)) (now (numbers .entry)) (now (work .entry)) (now (records .entry)) (now (volumes .entry)) (left (r .number) (r .shells) (now (numbers .exit)) (now (work .exit))) (now (records .exit)) (now (volumes .exit)) ⌝ }
+    ensures { λ r.
+        let after = left (r .number) (r .shells) (now (numbers .exit)) (now (work .exit)) in
+        ⌜ Listing (now (points .entry)) (now (triangles .entry)) (now (marks .entry)) (now (numbers .entry)) (now (work .entry)) (now (records .entry)) (now (volumes .entry))
+        after (now (records .exit)) (now (volumes .exit)) ⌝ }
 {
     let none = Shell {
         low: 0,

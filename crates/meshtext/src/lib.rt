@@ -215,7 +215,9 @@ fn mesh_length(
     requires { ⌜ recordsFit (length (now records)) (length (now volumes)) ≡ true ⌝ }
     requires { ⌜ length (now counts) ≡ 3 ⌝ }
     ensures small { λ r. ⌜ r ≤ longest (length (now (marks .entry))) (length (now (triangles .entry)) / 3) (length (now (volumes .entry))) ⌝ }
-    ensures length { λ r. ⌜ r ≡ length (linesOf (now (counts .entry)) (now (points .entry)) (now (edges .entry)) (now (marks .entry)) (now (triangles .entry)) (now (records .entry)) (now (volumes .entry))) ⌝ }
+    ensures length { λ r.
+        let text = linesOf (now (counts .entry)) (now (points .entry)) (now (edges .entry)) (now (marks .entry)) (now (triangles .entry)) (now (records .entry)) (now (volumes .entry)) in
+        ⌜ r ≡ length text ⌝ }
 {
     let head = 2 + fields_length(counts);
     let middle = points_length(points, edges, marks, marks.len());
@@ -237,7 +239,9 @@ fn write_lines(
     requires { ⌜ listsFit (length (now points)) (length (now edges)) (length (now marks)) (length (now triangles)) ≡ true ⌝ }
     requires { ⌜ recordsFit (length (now records)) (length (now volumes)) ≡ true ⌝ }
     requires { ⌜ length (linesOf (now counts) (now points) (now edges) (now marks) (now triangles) (now records) (now volumes)) ≤ length (now room) ⌝ }
-    ensures { λ _. ⌜ now (room .exit) ≡ sets (now (room .entry)) 0 (linesOf (now (counts .entry)) (now (points .entry)) (now (edges .entry)) (now (marks .entry)) (now (triangles .entry)) (now (records .entry)) (now (volumes .entry))) ⌝ }
+    ensures { λ _.
+        let text = linesOf (now (counts .entry)) (now (points .entry)) (now (edges .entry)) (now (marks .entry)) (now (triangles .entry)) (now (records .entry)) (now (volumes .entry)) in
+        ⌜ now (room .exit) ≡ sets (now (room .entry)) 0 text ⌝ }
 {
     let behind_counts = write_lettered(b'M', counts, room, 0);
     let behind_points = write_points(points, edges, marks, marks.len(), room, behind_counts);
@@ -257,7 +261,9 @@ pub fn write_mesh(
     room: &mut [u8],
 ) -> Written
     ensures holds { λ r. ⌜ Holds (length (now (marks .entry))) (length (now (triangles .entry)) / 3) (length (now (volumes .entry))) (length (now (room .entry))) (r .number) ⌝ }
-    ensures text { λ r. ⌜ outcome (r .number) (r .length) (now (room .exit)) ≡ meshWritten (now (points .entry)) (now (edges .entry)) (now (marks .entry)) (now (triangles .entry)) (now (records .entry)) (now (volumes .entry)) (now (room .entry)) ⌝ }
+    ensures text { λ r.
+        let after = outcome (r .number) (r .length) (now (room .exit)) in
+        ⌜ after ≡ meshWritten (now (points .entry)) (now (edges .entry)) (now (marks .entry)) (now (triangles .entry)) (now (records .entry)) (now (volumes .entry)) (now (room .entry)) ⌝ }
 {
     if !lists_fit(points.len(), edges.len(), marks.len(), triangles.len()) {
         return refused(6);

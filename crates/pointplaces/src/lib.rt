@@ -32,9 +32,15 @@ pub fn place(
     requires { ⌜ 3 * length (pointEdges axes (size nx ny nz) (maskAbove nx (now masks))) ≤ length (now points) ⌝ }
     requires { ⌜ length (pointEdges axes (size nx ny nz) (maskAbove nx (now masks))) ≤ length (now edges) ⌝ }
     requires { ⌜ length (pointEdges axes (size nx ny nz) (maskAbove nx (now masks))) ≤ length (now marks) ⌝ }
-    ensures places { λ _. ⌜ now (points .exit) ≡ laid (flatMap (placeOf axes (size nx ny nz) grey (now (samples .entry))) (pointEdges axes (size nx ny nz) (maskAbove nx (now (masks .entry))))) (now (points .entry)) ⌝ }
-    ensures edges { λ _. ⌜ now (edges .exit) ≡ laid (pointEdges axes (size nx ny nz) (maskAbove nx (now (masks .entry)))) (now (edges .entry)) ⌝ }
-    ensures marks { λ _. ⌜ now (marks .exit) ≡ laid (map (mark axes (size nx ny nz)) (pointEdges axes (size nx ny nz) (maskAbove nx (now (masks .entry))))) (now (marks .entry)) ⌝ }
+    ensures places { λ _.
+        let found = pointEdges axes (size nx ny nz) (maskAbove nx (now (masks .entry))) in
+        ⌜ now (points .exit) ≡ laid (flatMap (placeOf axes (size nx ny nz) grey (now (samples .entry))) found) (now (points .entry)) ⌝ }
+    ensures edges { λ _.
+        let found = pointEdges axes (size nx ny nz) (maskAbove nx (now (masks .entry))) in
+        ⌜ now (edges .exit) ≡ laid found (now (edges .entry)) ⌝ }
+    ensures marks { λ _.
+        let found = pointEdges axes (size nx ny nz) (maskAbove nx (now (masks .entry))) in
+        ⌜ now (marks .exit) ≡ laid (map (mark axes (size nx ny nz)) found) (now (marks .entry)) ⌝ }
 {
     let sides = Sides {
         nx,

@@ -48,7 +48,9 @@ pub fn list_numbers(
     work: &mut [u32],
     records: usize,
 ) -> Listed
-    ensures { λ r. ⌜ Lists (now (points .entry)) (now (triangles .entry)) (now (marks .entry)) records (now (numbers .entry)) (now (work .entry)) (left (r .number) (r .shells) (now (numbers .exit)) (now (work .exit))) ⌝ }
+    ensures { λ r.
+        let after = left (r .number) (r .shells) (now (numbers .exit)) (now (work .exit)) in
+        ⌜ Lists (now (points .entry)) (now (triangles .entry)) (now (marks .entry)) records (now (numbers .entry)) (now (work .entry)) after ⌝ }
 {
     let number = refused(points, triangles, marks, numbers.len(), work.len());
     if number != 0 {

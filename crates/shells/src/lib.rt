@@ -64,7 +64,9 @@ fn add_points(records: &mut [Shell], numbers: &[u32], marks: &[u8])
 // Adds triangle k to its record.
 fn add_triangle(records: &mut [Shell], numbers: &[u32], points: &[u32], triangles: &[u32], k: usize)
     requires { ⌜ TriangleTurn (now points) (now triangles) (now numbers) (now records) k ⌝ }
-    ensures { λ _. ⌜ now (records .exit) ≡ changed (withTriangle (sixfoldOf (now (points .entry)) (triangleAt (now (triangles .entry)) k))) (numberOf (now (numbers .entry)) (triangleAt (now (triangles .entry)) k .one)) (now (records .entry)) ⌝ }
+    ensures { λ _.
+        let t = triangleAt (now (triangles .entry)) k in
+        ⌜ now (records .exit) ≡ changed (withTriangle (sixfoldOf (now (points .entry)) t)) (numberOf (now (numbers .entry)) (t .one)) (now (records .entry)) ⌝ }
 {
     let n = number_of(numbers, triangles, k);
     let s = records[n];
@@ -122,7 +124,9 @@ pub fn shells(
     records: &mut [Shell],
     work: &mut [u32],
 ) -> Listed
-    ensures { λ r. ⌜ Shells (now (points .entry)) (now (triangles .entry)) (now (marks .entry)) (now (numbers .entry)) (now (work .entry)) (now (records .entry)) (left (r .number) (r .shells) (now (numbers .exit)) (now (work .exit))) (now (records .exit)) ⌝ }
+    ensures { λ r.
+        let after = left (r .number) (r .shells) (now (numbers .exit)) (now (work .exit)) in
+        ⌜ Shells (now (points .entry)) (now (triangles .entry)) (now (marks .entry)) (now (numbers .entry)) (now (work .entry)) (now (records .entry)) after (now (records .exit)) ⌝ }
 {
     let listed = list_numbers(points, triangles, marks, numbers, work, records.len());
     if listed.number != 0 {

@@ -52,7 +52,8 @@ pub fn smooth(
     smoothed: &mut [u32],
     work: &mut [u32],
 ) -> u32
-    ensures { λ r. ⌜ Smooths (now (points .entry)) (now (triangles .entry)) (now (marks .entry)) rounds weight (now (smoothed .entry)) (now (work .entry)) r (now (smoothed .exit)) (now (work .exit)) ⌝ }
+    ensures { λ r. ⌜ Smooths (now (points .entry)) (now (triangles .entry)) (now (marks .entry)) rounds weight
+        (now (smoothed .entry)) (now (work .entry)) r (now (smoothed .exit)) (now (work .exit)) ⌝ }
 {
     let number = mesh::check(points, triangles, marks);
     if number != 0 {

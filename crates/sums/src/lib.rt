@@ -53,7 +53,10 @@ fn add_corner(
 )
     requires { ⌜ (point < length (now areas)) × (length (now vectors) ≡ 3 * length (now areas)) ⌝ }
     requires { ⌜ Near p × Near q × Near r ⌝ }
-    ensures { λ _. ⌜ ((x : ℕ) → sumAt (now (areas .exit)) (now (vectors .exit)) x ≡ atPoint point x (addCorner p q r share cotj cotk) (sumAt (now (areas .entry)) (now (vectors .entry)) x)) ⌝ }
+    ensures { λ _.
+        let before = sumAt (now (areas .entry)) (now (vectors .entry)) in
+        let after = sumAt (now (areas .exit)) (now (vectors .exit)) in
+        ⌜ ((x : ℕ) → after x ≡ atPoint point x (addCorner p q r share cotj cotk) (before x)) ⌝ }
 {
     areas[point] = areas[point] + share;
     let at = 3 * point;
@@ -76,7 +79,10 @@ fn add_places(
     requires { ⌜ (a < length (now areas)) × (b < length (now areas)) × (c < length (now areas)) × (length (now vectors) ≡ 3 * length (now areas)) ⌝ }
     requires { ⌜ Near p × Near q × Near r ⌝ }
     requires { ⌜ (0 < n) × (n ≡ crossAt p q r) ⌝ }
-    ensures { λ _. ⌜ ((x : ℕ) → sumAt (now (areas .exit)) (now (vectors .exit)) x ≡ addPlaces (triangle a b c) p q r x (sumAt (now (areas .entry)) (now (vectors .entry)) x)) ⌝ }
+    ensures { λ _.
+        let before = sumAt (now (areas .entry)) (now (vectors .entry)) in
+        let after = sumAt (now (areas .exit)) (now (vectors .exit)) in
+        ⌜ ((x : ℕ) → after x ≡ addPlaces (triangle a b c) p q r x (before x)) ⌝ }
 {
     let double = corners::double_area(n);
     let dots = corners::dots_of(p, q, r);
@@ -98,7 +104,10 @@ fn add_triangle(
 )
     requires { ⌜ (a < length (now areas)) × (b < length (now areas)) × (c < length (now areas)) ⌝ }
     requires { ⌜ RoomsFit (now points) (now areas) (now vectors) ⌝ }
-    ensures { λ _. ⌜ ((x : ℕ) → sumAt (now (areas .exit)) (now (vectors .exit)) x ≡ addTriangle (now (points .entry)) (triangle a b c) x (sumAt (now (areas .entry)) (now (vectors .entry)) x)) ⌝ }
+    ensures { λ _.
+        let before = sumAt (now (areas .entry)) (now (vectors .entry)) in
+        let after = sumAt (now (areas .exit)) (now (vectors .exit)) in
+        ⌜ ((x : ℕ) → after x ≡ addTriangle (now (points .entry)) (triangle a b c) x (before x)) ⌝ }
 {
     let p = mesh::place_of(points, a);
     let q = mesh::place_of(points, b);
@@ -113,7 +122,10 @@ fn add_triangle(
 pub fn add_triangles(points: &[u32], triangles: &[u32], areas: &mut [f64], vectors: &mut [f64])
     requires { ⌜ RoomsFit (now points) (now areas) (now vectors) ⌝ }
     requires { ⌜ trianglesFit (now triangles) (length (now areas)) ≡ true ⌝ }
-    ensures { λ _. ⌜ ((x : ℕ) → sumAt (now (areas .exit)) (now (vectors .exit)) x ≡ sumAfter (now (points .entry)) (now (triangles .entry)) x (triangleCount (now (triangles .entry))) (sumAt (now (areas .entry)) (now (vectors .entry)) x)) ⌝ }
+    ensures { λ _.
+        let before = sumAt (now (areas .entry)) (now (vectors .entry)) in
+        let after = sumAt (now (areas .exit)) (now (vectors .exit)) in
+        ⌜ ((x : ℕ) → after x ≡ sumAfter (now (points .entry)) (now (triangles .entry)) x (triangleCount (now (triangles .entry))) (before x)) ⌝ }
 {
     let count = triangles.len() / 3;
     let mut i = 0;

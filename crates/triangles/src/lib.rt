@@ -233,7 +233,9 @@ fn write_layer(
     requires { ⌜ Counts (now counts) ⌝ }
     requires { ⌜ LayerFits layer ⌝ }
     requires { ⌜ LayerRoom (now offsets) (now work) (now triangles) (layer .nx) (layer .ny) (now masks) (layer .first) at ⌝ }
-    ensures { λ r. ⌜ Written (now (triangles .entry)) (now (triangles .exit)) at (layerNumbers (now (offsets .entry)) (now (work .entry)) (layer .nx) (layer .ny) (layer .ny - 1) (now (masks .entry)) (layer .first)) r ⌝ }
+    ensures { λ r.
+        let numbers = layerNumbers (now (offsets .entry)) (now (work .entry)) (layer .nx) (layer .ny) (layer .ny - 1) (now (masks .entry)) (layer .first) in
+        ⌜ Written (now (triangles .entry)) (now (triangles .exit)) at numbers r ⌝ }
 {
     let last = layer.ny - 1;
     let step = 3 * layer.nx;

@@ -47,7 +47,10 @@ pub extern "C" fn tholbrina_extract(
     point_count: &mut u32,
     triangle_count: &mut u32,
 ) -> u32
-    ensures { λ r. ⌜ Extracts nx ny nz grey (now (samples .entry)) (rooms (now (points .entry)) (now (edges .entry)) (now (marks .entry)) (now (triangles .entry)) (now (work .entry))) (left r (now («point_count» .exit)) (now («triangle_count» .exit)) (rooms (now (points .exit)) (now (edges .exit)) (now (marks .exit)) (now (triangles .exit)) (now (work .exit)))) ⌝ }
+    ensures { λ r.
+        let before = rooms (now (points .entry)) (now (edges .entry)) (now (marks .entry)) (now (triangles .entry)) (now (work .entry)) in
+        let after = rooms (now (points .exit)) (now (edges .exit)) (now (marks .exit)) (now (triangles .exit)) (now (work .exit)) in
+        ⌜ Extracts nx ny nz grey (now (samples .entry)) before (left r (now («point_count» .exit)) (now («triangle_count» .exit)) after) ⌝ }
 {
     let done = extract::extract(
         nx,
@@ -77,7 +80,8 @@ pub extern "C" fn tholbrina_smooth(
     smoothed: &mut [u32],
     work: &mut [u32],
 ) -> u32
-    ensures { λ r. ⌜ Smooths (now (points .entry)) (now (triangles .entry)) (now (marks .entry)) rounds weight (now (smoothed .entry)) (now (work .entry)) r (now (smoothed .exit)) (now (work .exit)) ⌝ }
+    ensures { λ r. ⌜ Smooths (now (points .entry)) (now (triangles .entry)) (now (marks .entry)) rounds weight
+        (now (smoothed .entry)) (now (work .entry)) r (now (smoothed .exit)) (now (work .exit)) ⌝ }
 {
     smooth::smooth(points, triangles, marks, rounds, weight, smoothed, work)
 }
@@ -94,7 +98,10 @@ pub extern "C" fn tholbrina_show<'a>(
     y: &mut u32,
     z: &mut u32,
 ) -> u32
-    ensures { λ r. ⌜ Shows (now (raw .entry)) (now (smoothed .entry)) second point (now (x .entry) ∷ now (y .entry) ∷ now (z .entry) ∷ []) r (now (x .exit) ∷ now (y .exit) ∷ now (z .exit) ∷ []) ⌝ }
+    ensures { λ r.
+        let held = now (x .entry) ∷ now (y .entry) ∷ now (z .entry) ∷ [] in
+        let after = now (x .exit) ∷ now (y .exit) ∷ now (z .exit) ∷ [] in
+        ⌜ Shows (now (raw .entry)) (now (smoothed .entry)) second point held r after ⌝ }
 {
     let mut number = 0;
     let part = show::show(raw, smoothed, second != 0, point, &mut number);
@@ -115,7 +122,9 @@ pub extern "C" fn tholbrina_curvature(
     areas: &mut [f64],
     vectors: &mut [f64],
 ) -> u32
-    ensures { λ r. ⌜ Curves (now (points .entry)) (now (triangles .entry)) (now (marks .entry)) (now (areas .entry)) (now (vectors .entry)) (curvesLeft r (now (areas .exit)) (now (vectors .exit))) ⌝ }
+    ensures { λ r.
+        let after = curvesLeft r (now (areas .exit)) (now (vectors .exit)) in
+        ⌜ Curves (now (points .entry)) (now (triangles .entry)) (now (marks .entry)) (now (areas .entry)) (now (vectors .entry)) after ⌝ }
 {
     curvature::curvature(points, triangles, marks, areas, vectors)
 }
@@ -134,7 +143,10 @@ pub extern "C" fn tholbrina_answer(
     y: &mut f64,
     z: &mut f64,
 ) -> u32
-    ensures { λ r. ⌜ Tells (now (marks .entry)) (now (areas .entry)) (now (vectors .entry)) point (now (kind .entry)) (now (area .entry) ∷ now (x .entry) ∷ now (y .entry) ∷ now (z .entry) ∷ []) r (now (kind .exit)) (now (area .exit) ∷ now (x .exit) ∷ now (y .exit) ∷ now (z .exit) ∷ []) ⌝ }
+    ensures { λ r.
+        let held = now (area .entry) ∷ now (x .entry) ∷ now (y .entry) ∷ now (z .entry) ∷ [] in
+        let after = now (area .exit) ∷ now (x .exit) ∷ now (y .exit) ∷ now (z .exit) ∷ [] in
+        ⌜ Tells (now (marks .entry)) (now (areas .entry)) (now (vectors .entry)) point (now (kind .entry)) held r (now (kind .exit)) after ⌝ }
 {
     let reading = curvature::read_back(marks, areas, vectors, point);
     match reading {
@@ -163,7 +175,9 @@ pub extern "C" fn tholbrina_shells(
     work: &mut [u32],
     shell_count: &mut u32,
 ) -> u32
-    ensures { λ r. ⌜ Shells (now (points .entry)) (now (triangles .entry)) (now (marks .entry)) (now (numbers .entry)) (now (work .entry)) (now (records .entry)) (shellsLeft r (now («shell_count» .exit)) (now (numbers .exit)) (now (work .exit))) (now (records .exit)) ⌝ }
+    ensures { λ r.
+        let after = shellsLeft r (now («shell_count» .exit)) (now (numbers .exit)) (now (work .exit)) in
+        ⌜ Shells (now (points .entry)) (now (triangles .entry)) (now (marks .entry)) (now (numbers .entry)) (now (work .entry)) (now (records .entry)) after (now (records .exit)) ⌝ }
 {
     let listed = shells::shells(points, triangles, marks, numbers, records, work);
     *shell_count = listed.shells as u32;
