@@ -1,5 +1,4 @@
 -- What later floors cite about samples, edges and places.
-pub mod Digits
 pub mod Sides
 pub mod Sites
 pub mod Crossings

@@ -5,7 +5,7 @@ use Prim.Native.Nat.{ℕ, zero, suc, _+_, _*_, _-_, _/_, _%_, _^_, _<_, _≤_}
 use native.Mathlib.Nat.{mul-add, mul-assoc, mod-add-div, mod-lt, div-lt-iff-lt-mul, mul-comm}
 use native.Mathlib.Omega.{arith}
 use Rattle.grid.specs.Grid.{Size, sampleCount, site, coordinate, side}
-use Rattle.grid.proofs.Digits.{low-mod, low-div, low-lt}
+use Rattle.laws.proofs.Digits.{low-mod, low-div, low-lt}
 
 -- which of three goes with an axis
 abbrev pub choose : ℕ → ℕ → ℕ → ℕ → ℕ

@@ -24,7 +24,8 @@ use Rattle.gridtext.specs.declared.Head.{Head}
 use Rattle.reading.proofs.Digits.{never}
 use Rattle.grid.proofs.Sides.{sides-within}
 use Rattle.gridtext.proofs.Checks.{passed, head-refused, room-short, room-holds}
-use Rattle.reading.proofs.Texts.{all-entries, part, row-written, IsLine, row-read, rows-written, rows-read}
+use Rattle.laws.proofs.Ranges.{all-entries}
+use Rattle.reading.proofs.Texts.{part, row-written, IsLine, row-read, rows-written, rows-read}
 
 -- the rows of a grid in the order of the file
 row-part : (h : Head) (samples : List ℕ) (y z : ℕ) → row (sizeOf h) samples y z ≡ part (h .nx) samples (h .ny * z + y)

@@ -13,6 +13,7 @@ pub mod Binary
 pub mod Halves
 pub mod Words
 pub mod Scan
+pub mod Digits
 pub mod Nearest
 pub mod Differences
 pub mod Sizes

@@ -9,7 +9,8 @@ use native.Mathlib.Numerals.{add-one}
 use native.Mathlib.Omega.{arith}
 use lib.Dec.{eqb}
 use borrow.Author.Tests.{eq-eqb, ne-eqb}
-use lib.ListN.{length, length-append}
+use lib.ListN.{length, getD, take, length-append}
+use lib.Seq.{take-suc, take-all}
 use Rattle.laws.specs.Range.{sumTo, joinTo, countTo, keepTo, someTo, one-if}
 use Rattle.laws.proofs.Binary.{bit-le}
 
@@ -189,3 +190,26 @@ pub join-room : {A : Type 0} (i n : ℕ) (f : ℕ → List A) → i < n → leng
 join-room i n f h =
     let e : n ≡ i + 1 + (n - (i + 1)) = omega arith in
     rw (e, join-split (i + 1) (n - (i + 1)) f, join-next i f, length-append, length-append) (omega arith)
+
+-- the entries of a list, one after the other
+pub entries : (xs : List ℕ) (n : ℕ) → n ≤ length xs → joinTo n (λ i. getD xs i 0 ∷ []) ≡ take n xs
+unfolding joinTo
+entries xs zero l = refl
+entries xs (suc n) l = rw (entries xs n (omega arith)) (sym (take-suc xs n 0 l))
+
+pub all-entries : (xs : List ℕ) (n : ℕ) → n ≡ length xs → joinTo n (λ i. getD xs i 0 ∷ []) ≡ xs
+all-entries xs n e = entries xs n (omega arith) ∙ take-all n xs (omega arith)
+
+-- joined from the front
+pub join-one : {A : Type 0} (f : ℕ → List A) → joinTo 1 f ≡ f 0
+unfolding joinTo
+join-one f = refl
+
+pub join-zero : {A : Type 0} (f : ℕ → List A) → joinTo 0 f ≡ []
+unfolding joinTo
+join-zero f = refl
+
+pub join-first : {A : Type 0} (n : ℕ) (f : ℕ → List A) → joinTo (suc n) f ≡ f 0 ++ joinTo n (λ i. f (1 + i))
+join-first n f =
+    let e : suc n ≡ 1 + n = omega arith in
+    rw (e, join-split 1 n f, join-one f)

@@ -10,6 +10,7 @@ use mir.Syntax.{w64}
 use mir.Val.{SFits, toZ, ofZ}
 use mir.ValLaws.{toZ-ofZ}
 use borrow.Author.Tests.{ltb-true}
+use Rattle.laws.specs.Signed.{negative}
 
 pub size-neg : (a : ℤ) → natAbs (negℤ a) ≡ natAbs a
 size-neg (pos zero) = refl
@@ -56,6 +57,10 @@ pub read-back : (a : ℤ) → mag a < 2 ^ 63 → toZ w64 (ofZ w64 a) ≡ a
 read-back a h = toZ-ofZ w64 a (record { sfits = h })
 
 -- so a sum of sizes that it holds
+-- the sign of a word that was made of a signed number
+pub sign-learnt : (a : ℤ) → mag a < 2 ^ 63 → {b : Bool} → b ≡ negative (toZ w64 (ofZ w64 a)) → b ≡ negative a
+sign-learnt a h e = e ∙ rw (read-back a h)
+
 pub sum-held : (a b : ℤ) → natAbs a + natAbs b < 2 ^ 63 → SFits w64 (a +ℤ b)
 sum-held a b h = record { sfits = held (a +ℤ b) (omega (arith, size-plus a b)) }
 

@@ -1,6 +1,6 @@
 -- A test over a whole range, a whole list or all rows of Booleans, closed by one computation, put to use at one entry.
 use mathlib.Core.Path.{_≡_, refl, sym}
-use mathlib.Core.Bool.{Bool, true, false, _&&_, and-eq-true-iff, and-false, _||_}
+use mathlib.Core.Bool.{Bool, true, false, _&&_, and-eq-true-iff, and-false, _||_, xor, true≢false}
 use mathlib.Core.Logic.{_⊎_, inl, inr}
 use mathlib.Core.List.{List, [], _∷_}
 use Prim.Native.Nat.{ℕ, zero, suc, _+_, _<_}
@@ -88,3 +88,16 @@ all-holds (suc n) p h = rw (h n (omega arith)) (all-holds n p (λ k l. h k (omeg
 pub either : (a b : Bool) → (a || b) ≡ true → (a ≡ true) ⊎ (b ≡ true)
 either true b h = inl refl
 either false b h = inr h
+
+-- neither of two tests passed
+pub neither : (a b : Bool) → (a || b) ≡ false → (a ≡ false) × (b ≡ false)
+neither true b h = absurd (true≢false h)
+neither false b h = (refl, h)
+
+-- two tests that do not differ
+pub alike : (a b : Bool) → xor a b ≡ false → a ≡ b
+unfolding xor
+alike true true h = refl
+alike true false h = h
+alike false true h = sym h
+alike false false h = refl

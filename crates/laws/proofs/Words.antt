@@ -1,13 +1,15 @@
--- The bits of words: of two words' exclusive or and or, below a word's lowest set bit, and of a word shifted on.
+-- The bits of words: of two words' and, or and exclusive or, of half a word, below a word's lowest set bit, and of a word shifted on.
 use mathlib.Core.Path.{_≡_, refl, ap, sym, _∙_}
-use mathlib.Core.Bool.{Bool, true, false, _&&_, _||_, xor}
+use mathlib.Core.Bool.{Bool, true, false, _&&_, _||_, xor, true≢false}
 use Prim.Native.Nat.{ℕ, zero, suc, _+_, _*_, _/_, _%_, _^_, _<_, min, max}
 use native.Mathlib.Nat.{mod-lt, pow-suc, pow-zero, div-one, div-div-eq-div-mul, add-zero, add-suc}
+use native.Mathlib.Numerals.{add-one}
 use native.Mathlib.Omega.{arith}
 use lib.Bits.{bitAnd, bitOr, bitXor, differ, and-step, or-step, xor-step}
 use lib.Count.{trailingZeros, under}
 use lib.Dec.{eqb, lit<}
 use Rattle.laws.specs.Bits.{bit, halved}
+use Rattle.laws.proofs.Tests.{both, neither, alike}
 use Rattle.laws.proofs.Halves.{bit-halved}
 
 low-is : (q d : ℕ) → d < 2 → eqb ((q * 2 + d) % 2) 1 ≡ eqb d 1
@@ -66,6 +68,29 @@ bit-or = by-digits bitOr max _||_ or-step digit-or
 
 pub bit-and : (m n i : ℕ) → bit (bitAnd m n) i ≡ (bit m i && bit n i)
 bit-and = by-digits bitAnd min _&&_ and-step digit-and
+
+-- the bit of half a word is the next one of the word
+pub bit-half : (n x : ℕ) → bit (n / 2) x ≡ bit n (x + 1)
+unfolding bit
+bit-half n x = rw (add-one x)
+
+-- what a bit of an or, an exclusive or or an and tells of the two words
+module _ (m n x : ℕ) where
+  pub or-clear : bit (bitOr m n) x ≡ false → (bit m x ≡ false) × (bit n x ≡ false)
+  or-clear h = neither (bit m x) (bit n x) (sym (bit-or m n x) ∙ h)
+
+  pub xor-clear : bit (bitXor m n) x ≡ false → bit m x ≡ bit n x
+  xor-clear h = alike (bit m x) (bit n x) (sym (bit-xor m n x) ∙ h)
+
+  pub and-clear : bit (bitAnd m n) x ≡ false → bit n x ≡ true → bit m x ≡ false
+  and-clear h t = not-first (bit m x) (bit n x) (sym (bit-and m n x) ∙ h) t
+    where
+      not-first : (a b : Bool) → (a && b) ≡ false → b ≡ true → a ≡ false
+      not-first true b h t = absurd (true≢false (sym t ∙ h))
+      not-first false b h t = refl
+
+  pub and-set : bit (bitAnd m n) x ≡ true → bit n x ≡ true
+  and-set h = both (bit m x) (bit n x) (sym (bit-and m n x) ∙ h) .1
 
 -- below its lowest set bit a word has none
 pub bit-below : (width n i : ℕ) → i < trailingZeros width n → bit n i ≡ false

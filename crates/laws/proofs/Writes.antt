@@ -1,12 +1,12 @@
 -- A run of elements written into a room from a place on, and two runs one after the other.
-use mathlib.Core.Path.{_≡_, refl, _∙_}
+use mathlib.Core.Path.{_≡_, refl, ap, _∙_}
 use mathlib.Core.List.{List, [], _∷_, _++_, map, flatMap, map-append}
 use Prim.Native.Nat.{ℕ, zero, suc, _+_, _*_, _<_, _≤_}
 use native.Mathlib.Numerals.{add-one}
 use native.Mathlib.Nat.{add-zero, mul-add}
 use native.Mathlib.Omega.{arith}
 use lib.ListN.{length, getD, take, set, length-set, length-map}
-use lib.Seq.{sets, sets-eq, take-suc, length-take-le, getD-set-same, getD-set-other}
+use lib.Seq.{sets, sets-eq, set-comm, take-suc, length-take-le, getD-set-same, getD-set-other}
 use Rattle.laws.specs.Room.{laid}
 use Rattle.laws.proofs.Ranges.{flat-append, length-flat}
 
@@ -60,3 +60,11 @@ pub flat-sets : {A B : Type 0} (width : ℕ) (g : A → List B) → ((a : A) →
 flat-sets width g even room n next xs ys is =
     let at : width * next ≡ width * n + length (flatMap g xs) = rw is (omega (arith, length-flat width g even xs, mul-add width n (length xs))) in
     rw (at, flat-append g xs ys) (sets-append room (width * n) (flatMap g xs) (flatMap g ys))
+
+-- a store below a run of writes comes before it
+pub set-before : {A : Type 0} (room : List A) (i j : ℕ) (xs : List A) (v : A) → i < j → set (sets room j xs) i v ≡ sets (set room i v) j xs
+set-before room i j [] v l = refl
+set-before room i j (x ∷ xs) v l = set-before (set room j x) i (suc j) xs v (omega arith) ∙ ap (λ r. sets r (suc j) xs) (set-comm room j i x v (omega arith))
+
+pub sets-below : {A : Type 0} (room : List A) (i : ℕ) (xs : List A) (v : A) → set (sets room (i + 1) xs) i v ≡ sets room i (v ∷ xs)
+sets-below room i xs v = rw add-one (set-before room i (suc i) xs v (omega arith))

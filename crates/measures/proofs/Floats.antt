@@ -1,5 +1,4 @@
 -- Whole numbers as binary64 numbers: as words, and as literals.
-use mathlib.Core.Bool.{Bool}
 use mathlib.Core.Path.{_≡_, refl, _∙_}
 use Prim.Native.Nat.{_^_, _≤_}
 use native.Mathlib.Omega.{arith}
@@ -9,7 +8,6 @@ use lib.Ieee.{Float, binary64, inFloat, ofBits, ofFields, odd, ofInt, round, uni
 use lib.IntN.{ℤ, pos, negsuc, natAbs}
 use mir.Syntax.{w64}
 use mir.Val.{toZ, ofZ}
-use Rattle.laws.specs.Signed.{negative}
 use Rattle.measures.specs.Vectors.{plusZero, whole}
 use Rattle.laws.proofs.Sizes.{held, read-back}
 
@@ -42,6 +40,3 @@ module _ (a : ℤ) (h : natAbs a ≤ 2 ^ 53) where
 
   pub float-learnt : {f : Float} → f ≡ whole (toZ w64 (ofZ w64 a)) → f ≡ whole a
   float-learnt e = e ∙ rw read-a
-
-  pub sign-learnt : {b : Bool} → b ≡ negative (toZ w64 (ofZ w64 a)) → b ≡ negative a
-  sign-learnt e = e ∙ rw read-a

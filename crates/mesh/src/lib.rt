@@ -32,7 +32,7 @@ pub fn place_of(points: &[u32], p: usize) -> Place
 }
 
 // Are there three coordinates a point and three numbers a triangle, and not too many of either?
-fn lengths_fit(points: usize, triangles: usize, v: usize) -> bool
+pub fn lengths_fit(points: usize, triangles: usize, v: usize) -> bool
     ensures { λ r. ⌜ r ≡ lengthsFit points triangles v ⌝ }
 {
     if v > (MOST_POINTS as usize) {

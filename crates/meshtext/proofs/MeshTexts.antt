@@ -12,19 +12,20 @@ use borrow.Author.Tests.{eqb-true, leb-true}
 use Rattle.laws.proofs.Tests.{both}
 use Rattle.laws.proofs.Writes.{sets-append}
 use Rattle.grid.specs.Limits.{mostPoints, mostTriangles}
+use Rattle.mesh.specs.Check.{lengthsFit}
 use Rattle.lines.specs.Line.{fields, lettered}
 use Rattle.writing.specs.Writing.{outcome, written}
 use Rattle.meshtext.specs.MeshText.{pointsText, trianglesText, shellsText, linesOf, meshText, listsFit, recordsFit, meshWritten}
 use Rattle.writing.proofs.Fields.{lettered-length}
 
 pub lists-fit : (p e m t : ℕ) → listsFit p e m t ≡ true → (p ≡ 3 * m) × (e ≡ m) × (m ≤ mostPoints) × (t / 3 ≤ mostTriangles)
-unfolding listsFit
+unfolding listsFit lengthsFit
 lists-fit p e m t h =
-    let a = both (eqb p (3 * m)) (eqb e m && (eqb (t % 3) 0 && (leb m mostPoints && leb (t / 3) mostTriangles))) h in
-    let b = both (eqb e m) (eqb (t % 3) 0 && (leb m mostPoints && leb (t / 3) mostTriangles)) (a .1) in
+    let a = both (lengthsFit p t m) (eqb e m) h in
+    let b = both (eqb p (3 * m)) (eqb (t % 3) 0 && (leb m mostPoints && leb (t / 3) mostTriangles)) (a .0) in
     let c = both (eqb (t % 3) 0) (leb m mostPoints && leb (t / 3) mostTriangles) (b .1) in
     let d = both (leb m mostPoints) (leb (t / 3) mostTriangles) (c .1) in
-    (eqb-true p (3 * m) (a .0), eqb-true e m (b .0), leb-true m mostPoints (d .0), leb-true (t / 3) mostTriangles (d .1))
+    (eqb-true p (3 * m) (b .0), eqb-true e m (a .1), leb-true m mostPoints (d .0), leb-true (t / 3) mostTriangles (d .1))
 
 pub records-fit : (r v : ℕ) → recordsFit r v ≡ true → (r ≡ 4 * v) × (v ≤ mostPoints)
 unfolding recordsFit

@@ -2,13 +2,14 @@
 use mathlib.Core.Path.{_≡_}
 use mathlib.Core.List.{List, [], _∷_, _++_}
 use mathlib.Core.Bool.{Bool, cond, not, _&&_}
-use Prim.Native.Nat.{ℕ, _+_, _*_, _/_, _%_, _≤_}
+use Prim.Native.Nat.{ℕ, _+_, _*_, _/_, _≤_}
 use lib.Dec.{eqb, leb}
 use lib.ListN.{length, getD}
 use lib.IntN.{ℤ, pos}
 use Rattle.laws.specs.Range.{joinTo}
 use Rattle.laws.specs.Threes.{threeAt}
-use Rattle.grid.specs.Limits.{mostPoints, mostTriangles}
+use Rattle.grid.specs.Limits.{mostPoints}
+use Rattle.mesh.specs.Check.{lengthsFit}
 use Rattle.lines.specs.Decimal.{signed}
 use Rattle.lines.specs.Line.{tab, lineFeed}
 use Rattle.lines.specs.Line.{fields, lettered}
@@ -50,10 +51,9 @@ abbrev pub meshText : List ℕ → List ℕ → List ℕ → List ℕ → List �
 meshText points edges marks triangles records volumes =
     linesOf (length marks ∷ length triangles / 3 ∷ length volumes ∷ []) points edges marks triangles records volumes
 
--- 6: three coordinates, one edge number and one mark a point, triangles in threes, and not too many
+-- 6: the lengths are those of a mesh, and there is one edge number a point
 unfoldable pub listsFit : ℕ → ℕ → ℕ → ℕ → Bool
-listsFit points edges marks triangles =
-    eqb points (3 * marks) && (eqb edges marks && (eqb (triangles % 3) 0 && (leb marks mostPoints && leb (triangles / 3) mostTriangles)))
+listsFit points edges marks triangles = lengthsFit points triangles marks && eqb edges marks
 
 -- 6: four numbers and one volume a shell, and no more shells than there may be points
 unfoldable pub recordsFit : ℕ → ℕ → Bool

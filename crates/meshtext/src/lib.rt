@@ -8,7 +8,6 @@ ghost use Rattle.grid.specs.Limits.{mostPoints, mostTriangles};
 ghost use Rattle.writing.specs.Writing.{outcome};
 ghost use Rattle.meshtext.specs.MeshText.{pointNumbers, pointsText, triangleNumbers, trianglesText, shellNumbers, shellText, shellsText, linesOf, listsFit, recordsFit, longest, Holds, meshWritten};
 use grid::limits::MOST_POINTS;
-use grid::limits::MOST_TRIANGLES;
 use writing::Written;
 use writing::fields_length;
 use writing::refused;
@@ -176,19 +175,10 @@ fn write_shells(records: &[u32], volumes: &[i64], room: &mut [u8], from: usize) 
 fn lists_fit(points: usize, edges: usize, v: usize, triangles: usize) -> bool
     ensures { λ r. ⌜ r ≡ listsFit points edges v triangles ⌝ }
 {
-    if v > (MOST_POINTS as usize) {
+    if !mesh::lengths_fit(points, triangles, v) {
         return false;
     }
-    if points != 3 * v {
-        return false;
-    }
-    if edges != v {
-        return false;
-    }
-    if triangles % 3 != 0 {
-        return false;
-    }
-    triangles / 3 <= MOST_TRIANGLES as usize
+    edges == v
 }
 
 // No mesh has more shells than points.

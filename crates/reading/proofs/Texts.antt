@@ -14,7 +14,7 @@ use borrow.Author.Tests.{eq-eqb, leb-true, leb-false, eqb-true}
 use Rattle.laws.specs.Range.{joinTo}
 use Rattle.laws.specs.Sum.{All}
 use Rattle.laws.proofs.Sums.{all-append}
-use Rattle.laws.proofs.Ranges.{join-split, join-cong}
+use Rattle.laws.proofs.Ranges.{join-cong, join-zero, join-first}
 use Rattle.lines.specs.Decimal.{decimal, isDigit}
 use Rattle.reading.specs.Reading.{Got, bad, got, after, digitsOn, readNumber, endedBy, readField, readRow, Rows, malformed, rows, ahead, lineThen, readRows}
 use Rattle.lines.specs.Line.{endOf}
@@ -127,32 +127,9 @@ row-read most (suc k) ns bs rest l h =
     field bad e further h = never h
     field (got n more) e further h = others n more e (readRow most k more) (further more) h
 
--- the entries of a list, one after the other
-pub entries : (xs : List ℕ) (n : ℕ) → n ≤ length xs → joinTo n (λ i. getD xs i 0 ∷ []) ≡ take n xs
-unfolding joinTo
-entries xs zero l = refl
-entries xs (suc n) l = rw (entries xs n (omega arith)) (sym (take-suc xs n 0 l))
-
-pub all-entries : (xs : List ℕ) (n : ℕ) → n ≡ length xs → joinTo n (λ i. getD xs i 0 ∷ []) ≡ xs
-all-entries xs n e = entries xs n (omega arith) ∙ take-all n xs (omega arith)
-
 -- row r of a list in rows of a width
 unfoldable pub part : ℕ → List ℕ → ℕ → List ℕ
 part width ns r = joinTo width (λ x. getD ns (width * r + x) 0 ∷ [])
-
--- joined from the front
-join-one : {A : Type 0} (f : ℕ → List A) → joinTo 1 f ≡ f 0
-unfolding joinTo
-join-one f = refl
-
-join-zero : {A : Type 0} (f : ℕ → List A) → joinTo 0 f ≡ []
-unfolding joinTo
-join-zero f = refl
-
-join-first : {A : Type 0} (n : ℕ) (f : ℕ → List A) → joinTo (suc n) f ≡ f 0 ++ joinTo n (λ i. f (1 + i))
-join-first n f =
-    let e : suc n ≡ 1 + n = omega arith in
-    rw (e, join-split 1 n f, join-one f)
 
 -- rows, written and read
 pub rows-written : (most width count at : ℕ) (g : ℕ → List ℕ) → ((r : ℕ) → (length (g r) ≡ width) × All (λ n. n ≤ most) (g r)) → readRows most width count at (joinTo count (λ r. line (g r))) ≡ rows (joinTo count g)

@@ -5,7 +5,7 @@ use native.Mathlib.Nat.{mul-le-mul, mul-add, mul-one, mul-zero, add-zero, zero-a
 use native.Mathlib.Omega.{arith}
 use Rattle.grid.specs.Grid.{axes, sampleCount, edgeCount}
 use Rattle.grid.specs.Work.{SidesFit}
-use Rattle.grid.proofs.Digits.{low-lt}
+use Rattle.laws.proofs.Digits.{low-lt}
 use Rattle.rows.specs.declared.Sides.{Sides}
 use Rattle.rows.specs.Rows.{sizeOf, firstEdge}
 use Rattle.rows.specs.Rows.{mostEdges}

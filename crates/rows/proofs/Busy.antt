@@ -1,7 +1,7 @@
 -- A row walked from one busy sample to the next: where the next one is, and that no edge that leaves a sample on the way is crossed.
 use mathlib.Core.Path.{_≡_, refl, ap, sym, _∙_}
 use mathlib.Core.List.{List}
-use mathlib.Core.Bool.{Bool, true, false, _&&_, _||_, xor, true≢false}
+use mathlib.Core.Bool.{Bool, true, false, _&&_, xor}
 use Prim.Native.Nat.{ℕ, zero, suc, _+_, _*_, _-_, _/_, _%_, _^_, _<_, _≤_}
 use native.Mathlib.Numerals.{add-one}
 use native.Mathlib.Omega.{arith}
@@ -10,8 +10,8 @@ use lib.Count.{trailingZeros}
 use lib.Dec.{ltb}
 use borrow.Author.Tests.{ltb-true, lt-ltb}
 use Rattle.laws.specs.Bits.{bit, halved}
-use Rattle.laws.proofs.Words.{bit-and, bit-or, bit-xor, lowest-small}
-use Rattle.laws.proofs.Tests.{both}
+use Rattle.laws.proofs.Words.{bit-and, bit-or, bit-xor, bit-half, lowest-small}
+use Rattle.laws.proofs.Tests.{both, neither, alike}
 use Rattle.laws.proofs.Scan.{scan-quiet, scan-found, scan-done, scan-next}
 use Rattle.grid.specs.Grid.{axes, crossed}
 use Rattle.masks.specs.Masks.{maskAbove}
@@ -19,23 +19,6 @@ use Rattle.rows.specs.declared.Sides.{Sides}
 use Rattle.rows.specs.declared.Row.{Row}
 use Rattle.rows.specs.Rows.{Ready, sizeOf, firstEdge, ownMask, behindMask, overMask, RowFrom, Busy}
 use Rattle.rows.proofs.Cut.{same-ends, cut-x, cut-y, cut-z}
-
--- two ends that do not differ, and a test that failed
-alike : (a b : Bool) → xor a b ≡ false → a ≡ b
-unfolding xor
-alike true true h = refl
-alike true false h = h
-alike false true h = sym h
-alike false false h = refl
-
-neither : (a b : Bool) → (a || b) ≡ false → (a ≡ false) × (b ≡ false)
-neither true b h = absurd (true≢false h)
-neither false b h = (refl, h)
-
--- the next bit of a number is the same bit of its half
-next-of-half : (n x : ℕ) → bit (n / 2) x ≡ bit n (x + 1)
-unfolding bit
-next-of-half n x = rw add-one
 
 -- the word that has a bit set, within the full mask, where a sample differs from one of its neighbours
 module _ (row : Row) (full : ℕ) where
@@ -54,7 +37,7 @@ module _ (row : Row) (full : ℕ) where
       let whole : bit differing x ≡ false = ap (λ t. t && bit differing x) (sym inside) ∙ sym (bit-and full differing x) ∙ none in
       let all = neither _ _ (sym (bit-or (bitXor (row .here) (row .here / 2)) aside x) ∙ whole) in
       let rest = neither _ _ (sym (bit-or (bitXor (row .here) (row .behind)) (bitXor (row .here) (row .over)) x) ∙ all .1) in (
-        ap (xor (bit (row .here) x)) (sym (next-of-half (row .here) x)) ∙ sym (bit-xor (row .here) (row .here / 2) x) ∙ all .0,
+        ap (xor (bit (row .here) x)) (sym (bit-half (row .here) x)) ∙ sym (bit-xor (row .here) (row .here / 2) x) ∙ all .0,
         sym (bit-xor (row .here) (row .behind) x) ∙ rest .0,
         sym (bit-xor (row .here) (row .over) x) ∙ rest .1,
       )

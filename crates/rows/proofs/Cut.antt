@@ -13,7 +13,7 @@ use Rattle.laws.proofs.Halves.{halved-next, bit-halved}
 use Rattle.laws.proofs.Words.{halved-more}
 use Rattle.grid.specs.Grid.{site, axes, crossed}
 use Rattle.grid.specs.Work.{size}
-use Rattle.grid.proofs.Digits.{low-mod, low-div}
+use Rattle.laws.proofs.Digits.{low-mod, low-div}
 use Rattle.grid.proofs.Crossings.{crossed-x, crossed-y, crossed-z}
 use Rattle.masks.specs.Masks.{maskAbove}
 use Rattle.rows.specs.declared.Sides.{Sides}

@@ -24,7 +24,7 @@ use Rattle.cube.proofs.Cases.{CrossedEdge, CrossedSide, sides-crossed}
 use Rattle.grid.specs.Grid.{site}
 use Rattle.grid.specs.Mesh.{cornerSite, caseAt}
 use Rattle.grid.specs.Work.{size}
-use Rattle.grid.proofs.Digits.{low-div, low-mod}
+use Rattle.laws.proofs.Digits.{low-div, low-mod}
 use Rattle.masks.specs.Masks.{maskAbove}
 use Rattle.triangles.specs.declared.RowMasks.{RowMasks}
 use Rattle.triangles.specs.Row.{masksAt, rowCase}

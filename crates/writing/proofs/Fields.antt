@@ -12,7 +12,7 @@ use lib.ListN.{length, getD, take, drop, set, length-append, length-drop, drop-o
 use lib.Seq.{sets, set-comm, take-at, drop-at}
 use borrow.Author.Tests.{le-ltb, lt-ltb}
 use Rattle.laws.specs.Room.{laid}
-use Rattle.laws.proofs.Writes.{sets-append, sets-front}
+use Rattle.laws.proofs.Writes.{sets-append, sets-front, sets-below}
 use Rattle.lines.specs.Decimal.{digit, decimal}
 use Rattle.lines.specs.Line.{endOf}
 use Rattle.lines.specs.Line.{line, fields, lettered}
@@ -42,14 +42,6 @@ digits-most (suc k) n l = go (decLt n 10) (digits-most k (n / 10) (omega (arith,
     go : Dec (n < 10) → length (decimal (n / 10)) ≤ suc k → length (decimal n) ≤ suc (suc k)
     go (yes s) tens = omega (arith, digits-one n s)
     go (no s) tens = omega (arith, digits-more n (omega arith))
-
--- a store below a run of writes comes before it
-pub set-before : {A : Type 0} (room : List A) (i j : ℕ) (xs : List A) (v : A) → i < j → set (sets room j xs) i v ≡ sets (set room i v) j xs
-set-before room i j [] v l = refl
-set-before room i j (x ∷ xs) v l = set-before (set room j x) i (suc j) xs v (omega arith) ∙ ap (λ r. sets r (suc j) xs) (set-comm room j i x v (omega arith))
-
-pub sets-below : {A : Type 0} (room : List A) (i : ℕ) (xs : List A) (v : A) → set (sets room (i + 1) xs) i v ≡ sets room i (v ∷ xs)
-sets-below room i xs v = rw add-one (set-before room i (suc i) xs v (omega arith))
 
 pub nothing-behind : (n count : ℕ) → count ≡ length (decimal n) → drop (count - 1 + 1) (decimal n) ≡ []
 nothing-behind n count e = let l : length (decimal n) ≤ count - 1 + 1 = omega (arith, digits-some n) in drop-of-length-le (decimal n) l

@@ -31,9 +31,6 @@ size-short (pos n) l = digits-most 18 n (omega arith)
 size-short (negsuc n) l = digits-most 18 (suc n) (omega arith)
 
 module _ (n : ℤ) (fits : SFits w64 n) where
-  pub sign-learnt : {b : Bool} → b ≡ negative (toZ w64 (ofZ w64 n)) → b ≡ negative n
-  sign-learnt e = e ∙ ap negative (toZ-ofZ {w = w64} fits)
-
   pub size-learnt : {m : ℕ} → m ≡ natAbs (toZ w64 (ofZ w64 n)) → m ≡ natAbs n
   size-learnt e = e ∙ ap natAbs (toZ-ofZ {w = w64} fits)
 

@@ -5,7 +5,8 @@ use lib.IntN.{natAbs}
 use lib.ListN.{length}
 use borrow.Author.Needs.{needs}
 use Rattle.lines.specs.Decimal.{decimal}
-use Rattle.writing.proofs.Signs.{signed-plain, signed-minus, sign-learnt, size-learnt, size-digits}
+use Rattle.writing.proofs.Signs.{signed-plain, signed-minus, size-learnt, size-digits}
+use Rattle.laws.proofs.Sizes.{sign-learnt}
 use Rattle.writing.proofs.signed_length.Statement.{statement}
 use Rattle.writing.proofs.signed_length.Tie as tie
 
@@ -34,14 +35,14 @@ returns : tie.Need-returns
 returns c =
     let d = c .before .before in
     let n = s d .args .n in
-    let e = signed-minus n (sym (sign-learnt n (s d .fits .n) (c .before .is-negative .ensures)) ∙ c .if1 .taken) in
+    let e = signed-minus n (sym (sign-learnt n (s d .fits .n .sfits) (c .before .is-negative .ensures)) ∙ c .if1 .taken) in
     omega (arith, counted d, size-digits n (s d .fits .n), ap length e)
 
 returns-2 : tie.Need-returns-2
 returns-2 c =
     let d = c .before .before in
     let n = s d .args .n in
-    let e = signed-plain n (sym (sign-learnt n (s d .fits .n) (c .before .is-negative .ensures)) ∙ c .if1 .left) in
+    let e = signed-plain n (sym (sign-learnt n (s d .fits .n .sfits) (c .before .is-negative .ensures)) ∙ c .if1 .left) in
     omega (arith, counted d, size-digits n (s d .fits .n), ap length e)
 
 pub signed-length-spec : {M : Type 1} → statement M

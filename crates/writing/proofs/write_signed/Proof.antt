@@ -10,7 +10,8 @@ use lib.Seq.{sets}
 use borrow.Author.Needs.{needs}
 use Rattle.laws.specs.Signed.{negative}
 use Rattle.lines.specs.Decimal.{decimal, signed}
-use Rattle.writing.proofs.Signs.{signed-plain, signed-minus, sign-learnt, size-learnt, minus-first}
+use Rattle.writing.proofs.Signs.{signed-plain, signed-minus, size-learnt, minus-first}
+use Rattle.laws.proofs.Sizes.{sign-learnt}
 use Rattle.writing.proofs.write_signed.Statement.{statement}
 use Rattle.writing.proofs.write_signed.Tie as tie
 
@@ -22,7 +23,7 @@ module _ (c : tie.After-is-negative) where
   s = c .before .before
 
   known : c .is-negative .result ≡ negative (s .args .n)
-  known = sign-learnt (s .args .n) (s .fits .n) (c .is-negative .ensures)
+  known = sign-learnt (s .args .n) (s .fits .n .sfits) (c .is-negative .ensures)
 
   long : c .is-negative .result ≡ true → length (signed (s .args .n)) ≡ 1 + length (decimal (natAbs (s .args .n)))
   long e = ap length (signed-minus (s .args .n) (sym known ∙ e)) ∙ omega arith

@@ -1,22 +1,17 @@
 -- `laws::signed::excess` meets its contract: both numbers are plain as signed ones, and so is their difference. Assumes nothing.
 use mathlib.Core.Path.{_≡_, ap, _∙_, subst, sym}
-use mathlib.Core.Bool.{Bool}
-use Prim.Native.Nat.{ℕ, _-_, _<_, _^_, suc}
-use lib.IntN.{ℤ, pos, negsuc, _-ℤ_}
+use Prim.Native.Nat.{ℕ, _<_, _^_}
+use lib.IntN.{ℤ, pos, _-ℤ_}
 use borrow.Author.Needs.{needs}
-use borrow.Author.Tests.{lt-ltb}
 use mir.Syntax.{w64}
-use mir.Val.{SFits, toZ, sel}
-use mir.Facts.{toZ-ofZ}
+use mir.Val.{SFits, toZ}
+use mir.Facts.{toZ-ofZ, toZ-pos}
 use Rattle.laws.proofs.Differences.{difference-fits}
 use Rattle.laws.proofs.signed.excess.Statement.{statement}
 use Rattle.laws.proofs.signed.excess.Tie as tie
 
-plain : (a : ℕ) → a < 2 ^ 63 → toZ w64 a ≡ pos a
-plain a l = ap (λ (t : Bool). sel t (pos a) (negsuc (2 ^ 64 - suc a))) (lt-ltb a (2 ^ 63) l)
-
 both-plain : (a b : ℕ) → a < 2 ^ 63 → b < 2 ^ 63 → toZ w64 a -ℤ toZ w64 b ≡ pos a -ℤ pos b
-both-plain a b la lb = ap (λ (z : ℤ). z -ℤ toZ w64 b) (plain a la) ∙ ap (λ (z : ℤ). pos a -ℤ z) (plain b lb)
+both-plain a b la lb = ap (λ (z : ℤ). z -ℤ toZ w64 b) (toZ-pos w64 la) ∙ ap (λ (z : ℤ). pos a -ℤ z) (toZ-pos w64 lb)
 
 fits : (a b : ℕ) → a < 2 ^ 63 → b < 2 ^ 63 → SFits w64 (toZ w64 a -ℤ toZ w64 b)
 fits a b la lb = subst (SFits w64) (sym (both-plain a b la lb)) (difference-fits a b la lb)
