@@ -20,7 +20,7 @@ use Rattle.grid.specs.Point.{place}
 use Rattle.grid.specs.Sides.{sidesFit}
 use Rattle.grid.specs.Work.{size, SidesFit}
 use Rattle.grid.proofs.Sides.{sides-within}
-use Rattle.extract.specs.Outcome.{Rooms, Outcome, refused, cleared, pointList, triangleList, pointRoom, triangleRoom, granted, measured, extracted}
+use Rattle.extract.specs.Extraction.{Rooms, Outcome, refused, cleared, pointList, triangleList, pointRoom, triangleRoom, granted, measured, extracted}
 use Rattle.extract.specs.Promise.{Extracts}
 use Rattle.mesh.specs.Mesh.{triangleCount, triangleAt, trianglesOf}
 use Rattle.closed.specs.Left.{meshLeft, edgesLeft}

@@ -19,7 +19,7 @@ use Rattle.laws.proofs.Sides.{sides-append}
 use Rattle.laws.proofs.Values.{laid-at}
 use Rattle.mesh.specs.Mesh.{triangleCount, triangleAt, trianglesOf}
 use Rattle.mesh.specs.Check.{trianglesFit, allWithin}
-use Rattle.extract.specs.Outcome.{Rooms, Outcome as Extracted}
+use Rattle.extract.specs.Extraction.{Rooms, Outcome as Extracted}
 use Rattle.extract.specs.Promise.{Extracts}
 use Rattle.records.specs.declared.Shell.{Shell}
 use Rattle.shellnumbers.specs.Numbering.{numberOf, Numbering}

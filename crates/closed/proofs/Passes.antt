@@ -18,7 +18,7 @@ use Rattle.grid.specs.Mesh.{mesh}
 use Rattle.grid.specs.Work.{size}
 use Rattle.grid.proofs.Points.{place-small, mark-small, point-of-edge}
 use Rattle.grid.proofs.Sound.{PointSide, mesh-sound}
-use Rattle.extract.specs.Outcome.{Rooms, Outcome}
+use Rattle.extract.specs.Extraction.{Rooms, Outcome}
 use Rattle.extract.specs.Promise.{Extracts}
 use Rattle.mesh.specs.Mesh.{triangleCount}
 use Rattle.mesh.specs.Check.{lengthsFit, namesThree, trianglesFit, allWithin, meshNumber}

@@ -17,7 +17,7 @@ use Rattle.cube.proofs.Way.{Ends}
 use Rattle.grid.specs.Grid.{axes, isAboveGrey, mark}
 use Rattle.grid.specs.Work.{size}
 use Rattle.grid.proofs.Sound.{PointSide, mesh-sound}
-use Rattle.extract.specs.Outcome.{Rooms, Outcome, pointList, triangleList}
+use Rattle.extract.specs.Extraction.{Rooms, Outcome, pointList, triangleList}
 use Rattle.extract.specs.Promise.{Extracts}
 use Rattle.closed.specs.Runs.{runs, Even, Balanced}
 use Rattle.mesh.specs.Mesh.{trianglesOf}

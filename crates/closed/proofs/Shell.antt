@@ -9,7 +9,7 @@ use borrow.Author.Tests.{ne-eqb}
 use Rattle.laws.specs.Range.{one-if}
 use Rattle.laws.specs.Sum.{sumOf}
 use Rattle.laws.specs.Mesh.{Triangle, sides, total}
-use Rattle.extract.specs.Outcome.{Rooms, Outcome}
+use Rattle.extract.specs.Extraction.{Rooms, Outcome}
 use Rattle.extract.specs.Promise.{Extracts}
 use Rattle.closed.specs.Runs.{runs, Even}
 use Rattle.mesh.specs.Mesh.{trianglesOf}

@@ -2,7 +2,7 @@
 use mathlib.Core.List.{List}
 use Prim.Native.Nat.{ℕ, _*_}
 use lib.ListN.{take}
-use Rattle.extract.specs.Outcome.{Outcome}
+use Rattle.extract.specs.Extraction.{Outcome}
 use Rattle.mesh.specs.Mesh.{trianglesOf}
 use Rattle.rounds.specs.Round.{rounds}
 

@@ -5,4 +5,4 @@ pub mod Turned
 pub mod Cases
 pub mod Classes
 pub mod Places
-pub mod Outcome
+pub mod OneCase

@@ -7,10 +7,10 @@ use native.Mathlib.Omega.{arith}
 use lib.ListN.{length, getD}
 use Rattle.laws.specs.Threes.{threeAt}
 use Rattle.laws.proofs.Rows.{entry-at}
-use Rattle.cube.specs.Answer.{count, countTable, triangleAt, answer, row, table}
+use Rattle.cube.specs.Answer.{count, countTable, cornersAt, answer, row, table}
 
 pub length-row : (k : ℕ) → length (row k) ≡ 15
-unfolding row flatten answer triangleAt
+unfolding row flatten answer cornersAt
 length-row k = refl
 
 pub entry : (k i : ℕ) → k < 256 → i < 15 → getD table (k * 15 + i) 0 ≡ getD (row k) i 0
@@ -33,7 +33,7 @@ count-at k h =
 -- five readings of three are the case's answer
 pub answer-read : (k : ℕ) → k < 256 → (rows a b c d e : List ℕ) → rows ≡ table → a ≡ threeAt rows (k * 15) → b ≡ threeAt rows (k * 15 + 3)
     → c ≡ threeAt rows (k * 15 + 6) → d ≡ threeAt rows (k * 15 + 9) → e ≡ threeAt rows (k * 15 + 12) → a ∷ b ∷ c ∷ d ∷ e ∷ [] ≡ answer k
-unfolding row flatten answer triangleAt
+unfolding row flatten answer cornersAt
 answer-read k h rows a b c d e t p q r s u =
     rw (p, q, r, s, u, t)
     (rw (

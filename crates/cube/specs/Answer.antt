@@ -29,12 +29,12 @@ unfoldable pub count : ℕ → ℕ
 count k = length (triangles k)
 
 -- the three edge numbers of the case's triangle n; zeros where it has none
-unfoldable pub triangleAt : ℕ → ℕ → List ℕ
-triangleAt k n = cornersOf (getD (triangles k) n (triangle 0 0 0))
+unfoldable pub cornersAt : ℕ → ℕ → List ℕ
+cornersAt k n = cornersOf (getD (triangles k) n (triangle 0 0 0))
 
 -- five triangles of three edge numbers each, unused ones zero
 unfoldable pub answer : ℕ → List (List ℕ)
-answer k = triangleAt k 0 ∷ triangleAt k 1 ∷ triangleAt k 2 ∷ triangleAt k 3 ∷ triangleAt k 4 ∷ []
+answer k = cornersAt k 0 ∷ cornersAt k 1 ∷ cornersAt k 2 ∷ cornersAt k 3 ∷ cornersAt k 4 ∷ []
 
 -- the table: fifteen edge numbers for each of the 256 cases
 unfoldable pub row : ℕ → List ℕ

@@ -17,7 +17,7 @@ use Rattle.measures.specs.Vectors.{plusZero, numbersOf, vectorAt}
 use Rattle.sums.specs.Sums.{start, sumAfter}
 use Rattle.sums.specs.Rooms.{sumAt}
 use Rattle.curvature.specs.Answers.{answer, storedVector}
-use Rattle.curvature.specs.Outcome.{sumOf, answerFor, granted, outcome}
+use Rattle.curvature.specs.Curved.{sumsFor, answerFor, granted, outcome}
 use Rattle.curvature.specs.Promise.{left}
 
 -- three numbers of a room, by the vector that they are
@@ -64,12 +64,12 @@ module _ (points triangles marks : List ℕ) (areas vectors : List Float) where
     refused-vectors h = rw (pass, ne-eqb _ _ h, and-false)
 
     pub granted-rooms : length areas ≡ length marks → length vectors ≡ 3 * length marks → (areas' vectors' : List Float) → length areas' ≡ length marks → length vectors' ≡ 3 * length marks
-        → ((x : ℕ) → x < length marks → getD areas' x nan ≡ sumOf points triangles x .area)
+        → ((x : ℕ) → x < length marks → getD areas' x nan ≡ sumsFor points triangles x .area)
         → ((x : ℕ) → x < length marks → vectorAt vectors' (3 * x) ≡ storedVector (answerFor points triangles marks x)) → left 0 areas' vectors' ≡ outcome points triangles marks areas vectors
     unfolding outcome granted
     granted-rooms la lv areas' vectors' la' lv' a v =
         rw (pass, eq-eqb _ _ la, eq-eqb _ _ lv)
-        (ap₂ (λ xs ys. left 0 xs ys) (rows-of-one (length marks) (λ x. sumOf points triangles x .area) areas' la' a) (rows-of-three (length marks) (λ x. storedVector (answerFor points triangles marks x)) vectors' lv' v))
+        (ap₂ (λ xs ys. left 0 xs ys) (rows-of-one (length marks) (λ x. sumsFor points triangles x .area) areas' la' a) (rows-of-three (length marks) (λ x. storedVector (answerFor points triangles marks x)) vectors' lv' v))
 
 -- rooms that are all +0.0 hold sums that start
 pub sums-start : (areas vectors : List Float) (v x : ℕ) → ((k : ℕ) → k < v → getD areas k nan ≡ plusZero) → ((k : ℕ) → k < 3 * v → getD vectors k nan ≡ plusZero) → x < v → sumAt areas vectors x ≡ start
@@ -80,11 +80,11 @@ sums-start areas vectors v x a b h =
 -- a point's sums after the pass over the triangles, and the vector that is stored for it
 module _ (points triangles marks : List ℕ) (zero-areas zero-vectors areas vectors : List Float) (x : ℕ)
     (summed : sumAt areas vectors x ≡ sumAfter points triangles x (triangleCount triangles) (sumAt zero-areas zero-vectors x)) (zero : sumAt zero-areas zero-vectors x ≡ start) where
-  sum-is : sumAt areas vectors x ≡ sumOf points triangles x
-  unfolding sumOf
+  sum-is : sumAt areas vectors x ≡ sumsFor points triangles x
+  unfolding sumsFor
   sum-is = summed ∙ rw zero
 
-  pub area-is : getD areas x nan ≡ sumOf points triangles x .area
+  pub area-is : getD areas x nan ≡ sumsFor points triangles x .area
   unfolding sumAt
   area-is = ap (λ s. s .area) sum-is
 

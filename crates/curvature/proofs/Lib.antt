@@ -2,6 +2,6 @@
 pub mod Finished
 pub mod Readings
 pub mod Granted
-pub mod OneOutcome
+pub mod OneCurvature
 pub mod Recovered
 pub mod Telling

@@ -8,7 +8,7 @@ use lib.Ieee.{Float}
 use lib.ListN.{length, getD}
 use borrow.Author.Tests.{eq-eqb, ne-eqb, le-leb, lt-leb, lt-ltb, le-ltb}
 use Rattle.curvature.specs.declared.answers.Reading.the-variants.{Answered, Refused}
-use Rattle.curvature.specs.Answers.{numberOf, holdsOf, readNumber, answerAt}
+use Rattle.curvature.specs.Answers.{readingNumber, holdsOf, readNumber, answerAt}
 use Rattle.curvature.specs.Promise.{ReadsBack}
 
 module _ (marks : List ℕ) (areas vectors : List Float) (point : ℕ) where
@@ -16,7 +16,7 @@ module _ (marks : List ℕ) (areas vectors : List Float) (point : ℕ) where
   number = readNumber marks areas vectors point
 
   refused : (n : ℕ) → number ≡ n → 0 < n → ReadsBack marks areas vectors point (Refused n)
-  unfolding numberOf holdsOf
+  unfolding readingNumber holdsOf
   refused n e l = (sym e, rw (e, ne-eqb n 0 (λ h. absurd (omega arith))))
 
   pub other-areas : (length areas ≡ length marks → ⊥) → ReadsBack marks areas vectors point (Refused 6)
@@ -41,5 +41,5 @@ module _ (marks : List ℕ) (areas vectors : List Float) (point : ℕ) where
     granted-number l h = rw (eq-eqb _ _ a, eq-eqb _ _ v, lt-leb _ _ l, le-ltb _ _ h)
 
     pub answered : point < length marks → getD marks point 0 ≤ 1 → ReadsBack marks areas vectors point (Answered (answerAt marks areas vectors point))
-    unfolding numberOf holdsOf
+    unfolding readingNumber holdsOf
     answered l h = (sym (granted-number l h), rw (granted-number l h))

@@ -18,12 +18,12 @@ use Rattle.curvature.specs.declared.answers.Reading.the-variants.{Answer
 use Rattle.measures.specs.Vectors.{plusZero, vector, numbersOf, vectorAt}
 use Rattle.sums.specs.Sums.{Sum}
 use Rattle.curvature.specs.Answers.{answerOf, answer, storedVector, answerAt}
-use Rattle.curvature.specs.Outcome.{Outcome, sumOf, answerFor, granted, outcome}
+use Rattle.curvature.specs.Curved.{Outcome, sumsFor, answerFor, granted, outcome}
 use Rattle.curvature.specs.Promise.{Curves, ReadsBack}
 use Rattle.mesh.proofs.Places.{within-any}
 use Rattle.mesh.proofs.Passed.{passed}
 use Rattle.curvature.proofs.Readings.{answered}
-use Rattle.curvature.proofs.OneOutcome.{one-reading}
+use Rattle.curvature.proofs.OneCurvature.{one-reading}
 
 -- the stored vector tells the same answer again
 told-again : (marked flat : Bool) (area : Float) (v : Vector)
@@ -58,7 +58,7 @@ vector-read n x f h =
 
 module _ (points triangles marks : List ℕ) (pass : meshNumber points triangles marks ≡ 0) (point : ℕ) (below : point < length marks) where
   abbrev areas : List Float
-  areas = joinTo (length marks) (λ x. sumOf points triangles x .area ∷ [])
+  areas = joinTo (length marks) (λ x. sumsFor points triangles x .area ∷ [])
 
   abbrev vectors : List Float
   vectors = joinTo (length marks) (λ x. numbersOf (storedVector (answerFor points triangles marks x)))
@@ -66,8 +66,8 @@ module _ (points triangles marks : List ℕ) (pass : meshNumber points triangles
   answer-is : answerAt marks areas vectors point ≡ answerFor points triangles marks point
   unfolding answerAt answerFor
   answer-is =
-      rw (area-read (length marks) point (λ x. sumOf points triangles x .area) below, vector-read (length marks) point (λ x. storedVector (answerFor points triangles marks x)) below)
-      (stored-tells (getD marks point 0) (sumOf points triangles point))
+      rw (area-read (length marks) point (λ x. sumsFor points triangles x .area) below, vector-read (length marks) point (λ x. storedVector (answerFor points triangles marks x)) below)
+      (stored-tells (getD marks point 0) (sumsFor points triangles point))
 
   mark-small : getD marks point 0 ≤ 1
   mark-small = within-any 1 marks point (passed points triangles marks pass .marks-fit)
@@ -75,7 +75,7 @@ module _ (points triangles marks : List ℕ) (pass : meshNumber points triangles
   rooms-read : (r : Reading) → ReadsBack marks areas vectors point r → r ≡ Answered (answerFor points triangles marks point)
   rooms-read r h =
       one-reading marks areas vectors point r (Answered (answerAt marks areas vectors point)) h
-      (answered marks areas vectors point (omega (arith, length-rows 1 (λ x. sumOf points triangles x .area ∷ []) (λ k. refl) (length marks))) (omega (arith, length-rows 3 (λ x. numbersOf (storedVector (answerFor points triangles marks x))) (λ k. refl) (length marks))) below mark-small)
+      (answered marks areas vectors point (omega (arith, length-rows 1 (λ x. sumsFor points triangles x .area ∷ []) (λ k. refl) (length marks))) (omega (arith, length-rows 3 (λ x. numbersOf (storedVector (answerFor points triangles marks x))) (λ k. refl) (length marks))) below mark-small)
       ∙ ap Answered answer-is
 
 -- a call that answered 0 left what is defined for a granted one

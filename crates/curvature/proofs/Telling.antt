@@ -11,9 +11,9 @@ use borrow.Author.Tests.{ne-eqb}
 use Rattle.measures.specs.declared.vectors.Vector.{Vector}
 use Rattle.curvature.specs.declared.answers.Answer.{Answer}
 use Rattle.curvature.specs.declared.answers.Reading.the-variants.{Answered, Refused}
-use Rattle.curvature.specs.Answers.{kindOf, areaOf, storedVector, valuesOf, numberOf, holdsOf, readNumber, answerAt}
+use Rattle.curvature.specs.Answers.{kindOf, areaOf, storedVector, valuesOf, readingNumber, holdsOf, readNumber, answerAt}
 use Rattle.curvature.specs.Promise.{ReadsBack, Tells}
-use Rattle.curvature.proofs.OneOutcome.{one-answer}
+use Rattle.curvature.proofs.OneCurvature.{one-point-answer}
 
 module _ (marks : List ℕ) (areas vectors : List Float) (point heldKind : ℕ) (held : List Float) where
   abbrev wanted : ℕ
@@ -27,12 +27,12 @@ module _ (marks : List ℕ) (areas vectors : List Float) (point heldKind : ℕ) 
   unfolding holdsOf
   held-answer a z h =
       let e : (valuesOf a ∷ []) ≡ (valuesOf here ∷ []) = rw (z) at h in
-      one-answer a here (cc)
+      one-point-answer a here (cc)
 
   pub told-answer : (a : Answer) (kind : ℕ) (area : Float) (v : Vector) → ReadsBack marks areas vectors point (Answered a)
       → kind ≡ kindOf a → area ≡ areaOf a → v ≡ storedVector a
       → Tells marks areas vectors point heldKind held 0 kind (area ∷ v .x ∷ v .y ∷ v .z ∷ [])
-  unfolding numberOf
+  unfolding readingNumber
   told-answer a kind area v r ek ea ev =
       let z : wanted ≡ 0 = sym (r .0) in
       let is = held-answer a z (r .1) in
@@ -46,7 +46,7 @@ module _ (marks : List ℕ) (areas vectors : List Float) (point heldKind : ℕ) 
       absurd (omega arith)
 
   pub told-refusal : (n : ℕ) → ReadsBack marks areas vectors point (Refused n) → Tells marks areas vectors point heldKind held n heldKind held
-  unfolding numberOf
+  unfolding readingNumber
   told-refusal n r =
       let d = refused-number n (r .0) (r .1) in
       rw (ne-eqb wanted 0 d) (r .0, refl, refl)

@@ -46,9 +46,9 @@ valuesOf Flat = []
 valuesOf (Bent area v) = area ∷ v .x ∷ v .y ∷ v .z ∷ []
 
 -- the number of a reading, for each case: 0 if granted
-unfoldable pub numberOf : Reading → ℕ
-numberOf (Answered a) = 0
-numberOf (Refused n) = n
+unfoldable pub readingNumber : Reading → ℕ
+readingNumber (Answered a) = 0
+readingNumber (Refused n) = n
 
 -- and what it holds: one answer's values, or no answer
 unfoldable pub holdsOf : Reading → List (List Float)

@@ -6,8 +6,8 @@ use Prim.Native.Nat.{ℕ}
 use lib.Dec.{eqb}
 use lib.Ieee.{Float}
 use Rattle.curvature.specs.declared.answers.Reading.{Reading}
-use Rattle.curvature.specs.Answers.{kindOf, areaOf, storedVector, valuesOf, numberOf, holdsOf, readNumber, answerAt}
-use Rattle.curvature.specs.Outcome.{Outcome, outcome}
+use Rattle.curvature.specs.Answers.{kindOf, areaOf, storedVector, valuesOf, readingNumber, holdsOf, readNumber, answerAt}
+use Rattle.curvature.specs.Curved.{Outcome, outcome}
 
 -- what was left behind, as one value
 abbrev pub left : ℕ → List Float → List Float → Outcome
@@ -21,7 +21,7 @@ Curves points triangles marks areas vectors after = after ≡ outcome points tri
 abbrev pub ReadsBack : List ℕ → List Float → List Float → ℕ → Reading → Type 0
 ReadsBack marks areas vectors point r =
     let number = readNumber marks areas vectors point in
-    (numberOf r ≡ number) × (holdsOf r ≡ cond (eqb number 0) (valuesOf (answerAt marks areas vectors point) ∷ []) [])
+    (readingNumber r ≡ number) × (holdsOf r ≡ cond (eqb number 0) (valuesOf (answerAt marks areas vectors point) ∷ []) [])
 
 -- one answer read back by a caller in C: the number, and what kind, area, x, y and z hold after, given what they held
 abbrev pub Tells : List ℕ → List Float → List Float → ℕ → ℕ → List Float → ℕ → ℕ → List Float → Type 0

@@ -9,7 +9,7 @@ use borrow.Author.Tests.{eq-eqb, ne-eqb}
 use Rattle.grid.specs.Sides.{sidesFit}
 use Rattle.grid.specs.Grid.{axes, sampleCount, edgeCount}
 use Rattle.grid.specs.Work.{size, SidesFit}
-use Rattle.extract.specs.Outcome.{Rooms, refused, measured, extracted}
+use Rattle.extract.specs.Extraction.{Rooms, refused, measured, extracted}
 use Rattle.extract.specs.Promise.{left}
 use Rattle.extract.proofs.Ways.{rows-most}
 

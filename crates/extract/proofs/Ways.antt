@@ -17,7 +17,7 @@ use Rattle.grid.specs.Mesh.{edgeMesh, mesh}
 use Rattle.grid.specs.Work.{size, SidesFit}
 use Rattle.grid.proofs.Same.{points-same, mesh-same}
 use Rattle.masks.specs.Masks.{maskAbove, Masked}
-use Rattle.extract.specs.Outcome.{Rooms, Outcome, refused, cleared, pointList, triangleList, pointRoom, triangleRoom, granted, measured}
+use Rattle.extract.specs.Extraction.{Rooms, Outcome, refused, cleared, pointList, triangleList, pointRoom, triangleRoom, granted, measured}
 use Rattle.extract.specs.Promise.{rooms, left}
 
 -- a grid has no more rows than there is room for masks

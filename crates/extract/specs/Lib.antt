@@ -1,3 +1,3 @@
 -- What a call leaves behind, and the promise that cites it.
-pub mod Outcome
+pub mod Extraction
 pub mod Promise

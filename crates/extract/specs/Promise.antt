@@ -3,7 +3,7 @@ use mathlib.Core.Path.{_≡_}
 use mathlib.Core.List.{List}
 use Prim.Native.Nat.{ℕ}
 use Rattle.grid.specs.Work.{size}
-use Rattle.extract.specs.Outcome.{Rooms, Outcome, measured, extracted}
+use Rattle.extract.specs.Extraction.{Rooms, Outcome, measured, extracted}
 
 abbrev pub rooms : List ℕ → List ℕ → List ℕ → List ℕ → List ℕ → Rooms
 rooms points edges marks triangles work = record { points = points; edges = edges; marks = marks; triangles = triangles; work = work }

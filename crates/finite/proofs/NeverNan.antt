@@ -23,7 +23,7 @@ use Rattle.curvature.specs.declared.answers.Answer.the-variants.{Open, Flat, Be
 use Rattle.measures.specs.Vectors.{plusZero, noVector, numbersOf, whole, over}
 use Rattle.sums.specs.Sums.{Sum}
 use Rattle.curvature.specs.Answers.{answerOf, answer, storedVector}
-use Rattle.curvature.specs.Outcome.{Outcome, sumOf, answerFor, granted}
+use Rattle.curvature.specs.Curved.{Outcome, sumsFor, answerFor, granted}
 use Rattle.curvature.specs.Promise.{Curves}
 use Rattle.finite.proofs.AtMost.{AtMost, at-most-more, mul-at-most}
 use Rattle.finite.proofs.AtLeast.{AtLeast, Grain, mul-at-least}
@@ -110,18 +110,18 @@ module _ (points triangles marks : List ℕ) (pass : meshNumber points triangles
   checked : Passed points triangles marks
   checked = passed points triangles marks pass
 
-  sum-most : (x : ℕ) → SumMost (6 * triangleCount triangles) (sumOf points triangles x)
-  unfolding sumOf
+  sum-most : (x : ℕ) → SumMost (6 * triangleCount triangles) (sumsFor points triangles x)
+  unfolding sumsFor
   sum-most x = sums-most points (checked .small) triangles x (triangleCount triangles) (checked .triangles-few)
 
   few-additions : 6 * triangleCount triangles ≤ 2 ^ 22
   few-additions = omega (arith, checked .triangles-few)
 
-  area-at : (i : ℕ) → i < length marks → getD (granted points triangles marks .areas) i nan ≡ sumOf points triangles i .area
+  area-at : (i : ℕ) → i < length marks → getD (granted points triangles marks .areas) i nan ≡ sumsFor points triangles i .area
   unfolding granted
   area-at i h =
       let place : i * 1 + 0 ≡ i = omega arith in
-      rw place at (entry-at 1 (λ x. sumOf points triangles x .area ∷ []) (λ k. refl) (length marks) i 0 nan h (omega arith))
+      rw place at (entry-at 1 (λ x. sumsFor points triangles x .area ∷ []) (λ k. refl) (length marks) i 0 nan h (omega arith))
 
   number-at : (i : ℕ) → i < 3 * length marks → getD (granted points triangles marks .vectors) i nan ≡ getD (numbersOf (storedVector (answerFor points triangles marks (i / 3)))) (i % 3) nan
   unfolding granted
@@ -134,9 +134,9 @@ module _ (points triangles marks : List ℕ) (pass : meshNumber points triangles
   granted-finite =
       let n = 6 * triangleCount triangles in
       record {
-        area-finite = λ i h. rw (area-at i h) (is-finite n 60 (sumOf points triangles i .area) (sum-most i .area-most));
-        area-least = λ i h. rw (area-at i h) (not-negative 33 (sumOf points triangles i .area) (sum-most i .area-grain));
-        vector-finite = λ i h. rw (number-at i h) (one-of-three n 77 (i % 3) (storedVector (answerFor points triangles marks (i / 3))) (omega arith) (stored-most n few-additions (sumOf points triangles (i / 3)) (sum-most (i / 3)) (getD marks (i / 3) 0)));
+        area-finite = λ i h. rw (area-at i h) (is-finite n 60 (sumsFor points triangles i .area) (sum-most i .area-most));
+        area-least = λ i h. rw (area-at i h) (not-negative 33 (sumsFor points triangles i .area) (sum-most i .area-grain));
+        vector-finite = λ i h. rw (number-at i h) (one-of-three n 77 (i % 3) (storedVector (answerFor points triangles marks (i / 3))) (omega arith) (stored-most n few-additions (sumsFor points triangles (i / 3)) (sum-most (i / 3)) (getD marks (i / 3) 0)));
       }
 
   -- so no NaN stands there

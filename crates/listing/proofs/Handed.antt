@@ -21,11 +21,11 @@ use Rattle.records.specs.Grown.{none}
 use Rattle.records.specs.Record.{recordOf}
 use Rattle.shellnumbers.specs.Lists.{Outcome, Lists, refused, crowded, granted}
 use Rattle.shells.specs.Promise.{Shells, recordsAfter}
-use Rattle.listing.specs.Listing.{mostListed, numbersOf, numbersHanded, volumesHanded, Listing}
+use Rattle.listing.specs.Listing.{mostListed, recordNumbers, numbersHanded, volumesHanded, Listing}
 
 -- four numbers a record
-pub four-each : (n : ℕ) (shell : ℕ → Shell) → length (joinTo n (λ k. numbersOf (shell k))) ≡ 4 * n
-four-each n shell = length-rows 4 (λ k. numbersOf (shell k)) (λ k. refl) n ∙ mul-comm n 4
+pub four-each : (n : ℕ) (shell : ℕ → Shell) → length (joinTo n (λ k. recordNumbers (shell k))) ≡ 4 * n
+four-each n shell = length-rows 4 (λ k. recordNumbers (shell k)) (λ k. refl) n ∙ mul-comm n 4
 
 -- the numbers' room: nothing handed on, one record more, and as long as it was
 pub numbers-none : (shell : ℕ → Shell) (room : List ℕ) → room ≡ numbersHanded 0 shell room
@@ -33,10 +33,10 @@ unfolding numbersHanded joinTo laid
 numbers-none shell room = refl
 
 pub numbers-more : (n : ℕ) (shell : ℕ → Shell) (room : List ℕ) → 4 * n + 3 < length room
-    → sets (numbersHanded n shell room) (4 * n) (numbersOf (shell n)) ≡ numbersHanded (n + 1) shell room
+    → sets (numbersHanded n shell room) (4 * n) (recordNumbers (shell n)) ≡ numbersHanded (n + 1) shell room
 unfolding numbersHanded
 numbers-more n shell room h =
-    let f : ℕ → List ℕ = λ k. numbersOf (shell k) in
+    let f : ℕ → List ℕ = λ k. recordNumbers (shell k) in
     let now : laid (joinTo n f) room ≡ sets room 0 (joinTo n f) = sym (sets-front room (joinTo n f) (omega (arith, four-each n shell))) in
     let next : sets room 0 (joinTo (n + 1) f) ≡ laid (joinTo (n + 1) f) room = sets-front room (joinTo (n + 1) f) (omega (arith, four-each (n + 1) shell)) in
     let end : 4 * n ≡ 0 + length (joinTo n f) = omega (arith, four-each n shell) in
@@ -48,7 +48,7 @@ numbers-more n shell room h =
 
 pub numbers-long : (n : ℕ) (shell : ℕ → Shell) (room : List ℕ) → 4 * n ≤ length room → length (numbersHanded n shell room) ≡ length room
 unfolding numbersHanded
-numbers-long n shell room h = length-laid (joinTo n (λ k. numbersOf (shell k))) room (omega (arith, four-each n shell))
+numbers-long n shell room h = length-laid (joinTo n (λ k. recordNumbers (shell k))) room (omega (arith, four-each n shell))
 
 -- and the volumes'
 pub volumes-none : (shell : ℕ → Shell) (room : List ℤ) → room ≡ volumesHanded 0 shell room
@@ -69,7 +69,7 @@ module _ (n : ℕ) (shell other : ℕ → Shell) (same : (k : ℕ) → k < n →
   numbers-same : (room : List ℕ) → numbersHanded n shell room ≡ numbersHanded n other room
   unfolding numbersHanded
   numbers-same room =
-      ap (λ xs. laid xs room) (join-cong n (λ k. numbersOf (shell k)) (λ k. numbersOf (other k)) (λ k l. ap numbersOf (same k l)))
+      ap (λ xs. laid xs room) (join-cong n (λ k. recordNumbers (shell k)) (λ k. recordNumbers (other k)) (λ k l. ap recordNumbers (same k l)))
 
   volumes-same : (room : List ℤ) → volumesHanded n shell room ≡ volumesHanded n other room
   unfolding volumesHanded

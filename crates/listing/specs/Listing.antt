@@ -16,12 +16,12 @@ abbrev pub mostListed : ℕ
 mostListed = 3 * mostSmall
 
 -- a record's numbers that have no sign, in the record's order
-abbrev pub numbersOf : Shell → List ℕ
-numbersOf s = s .low ∷ s .points ∷ s .triangles ∷ s .touches ∷ []
+abbrev pub recordNumbers : Shell → List ℕ
+recordNumbers s = s .low ∷ s .points ∷ s .triangles ∷ s .touches ∷ []
 
 -- the rooms for the numbers and for the volumes after so many records were laid over their fronts
 unfoldable pub numbersHanded : ℕ → (ℕ → Shell) → List ℕ → List ℕ
-numbersHanded count shell room = laid (joinTo count (λ n. numbersOf (shell n))) room
+numbersHanded count shell room = laid (joinTo count (λ n. recordNumbers (shell n))) room
 
 unfoldable pub volumesHanded : ℕ → (ℕ → Shell) → List ℤ → List ℤ
 volumesHanded count shell room = laid (listTo count (λ n. shell n .volume)) room

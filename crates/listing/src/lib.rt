@@ -6,7 +6,7 @@ ghost use lib.ListN.{length, getD, set};
 ghost use lib.Seq.{sets};
 ghost use Rattle.records.specs.Grown.{none};
 ghost use Rattle.shellnumbers.specs.Lists.{left};
-ghost use Rattle.listing.specs.Listing.{mostListed, numbersOf, numbersHanded, volumesHanded, Listing};
+ghost use Rattle.listing.specs.Listing.{mostListed, recordNumbers, numbersHanded, volumesHanded, Listing};
 use grid::limits::MOST_SMALL;
 use records::Shell;
 use shellnumbers::Listed;
@@ -17,7 +17,7 @@ pub const MOST_LISTED: usize = 3 * (MOST_SMALL as usize);
 // Lays a record down as its four numbers and its volume.
 fn lay(s: Shell, n: usize, records: &mut [u32], volumes: &mut [i64])
     requires { ⌜ (4 * n + 3 < length (now records)) × (n < length (now volumes)) ⌝ }
-    ensures { λ _. ⌜ (now (records .exit) ≡ sets (now (records .entry)) (4 * n) (numbersOf s)) × (now (volumes .exit) ≡ set (now (volumes .entry)) n (s .volume)) ⌝ }
+    ensures { λ _. ⌜ (now (records .exit) ≡ sets (now (records .entry)) (4 * n) (recordNumbers s)) × (now (volumes .exit) ≡ set (now (volumes .entry)) n (s .volume)) ⌝ }
 {
     let at = 4 * n;
     records[at] = s.low;
@@ -31,7 +31,7 @@ fn lay(s: Shell, n: usize, records: &mut [u32], volumes: &mut [i64])
 // Hands record n on.
 fn hand(shells: &[Shell], n: usize, records: &mut [u32], volumes: &mut [i64])
     requires { ⌜ (n < length (now shells)) × (4 * n + 3 < length (now records)) × (n < length (now volumes)) ⌝ }
-    ensures { λ _. ⌜ (now (records .exit) ≡ sets (now (records .entry)) (4 * n) (numbersOf (getD (now (shells .entry)) n none)))
+    ensures { λ _. ⌜ (now (records .exit) ≡ sets (now (records .entry)) (4 * n) (recordNumbers (getD (now (shells .entry)) n none)))
         × (now (volumes .exit) ≡ set (now (volumes .entry)) n (getD (now (shells .entry)) n none .volume)) ⌝ }
 {
     let s = shells[n];

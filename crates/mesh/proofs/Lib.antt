@@ -1,4 +1,4 @@
 -- The check has one answer, and a mesh that it lets pass has these facts.
-pub mod Outcome
 pub mod Places
 pub mod Passed
+pub mod OneCheck

@@ -29,9 +29,9 @@ use Rattle.laws.proofs.Lists.{flat-map}
 use Rattle.laws.proofs.Writes.{flat-sets, map-sets}
 
 -- the offset of samples of sixteen bits is far below what a coordinate's type holds
-pub offset-small : (v0 v1 grey : ℕ) → v0 < 2 ^ 16 → v1 < 2 ^ 16 → grey < 2 ^ 16 → offset v0 v1 grey < 2 ^ 26
+pub offset-fits : (v0 v1 grey : ℕ) → v0 < 2 ^ 16 → v1 < 2 ^ 16 → grey < 2 ^ 16 → offset v0 v1 grey < 2 ^ 26
 unfolding offset nearest
-offset-small v0 v1 grey a b c = omega (arith, div-le-self (2 * (unit * apart grey v0) + apart v1 v0) (2 * apart v1 v0))
+offset-fits v0 v1 grey a b c = omega (arith, div-le-self (2 * (unit * apart grey v0) + apart v1 v0) (2 * apart v1 v0))
 
 -- the point that was written, made from the samples that were read, as the definition has it
 pub point-written : (n : Size) (grey : ℕ) (samples : List ℕ) (s axis step number far : ℕ) (p : Point) (before after : Rooms) → step ≡ stepOf n axis

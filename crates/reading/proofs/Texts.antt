@@ -14,7 +14,7 @@ use borrow.Author.Tests.{eq-eqb, leb-true, leb-false, eqb-true}
 use Rattle.laws.specs.Range.{joinTo}
 use Rattle.laws.specs.Sum.{All}
 use Rattle.laws.proofs.Sums.{all-append}
-use Rattle.laws.proofs.Ranges.{join-cong, join-zero, join-first}
+use Rattle.laws.proofs.Ranges.{all-entries, join-cong, join-zero, join-first}
 use Rattle.lines.specs.Decimal.{decimal, isDigit}
 use Rattle.reading.specs.Reading.{Got, bad, got, after, digitsOn, readNumber, endedBy, readField, readRow, Rows, malformed, rows, ahead, lineThen, readRows}
 use Rattle.lines.specs.Line.{endOf}

@@ -1,5 +1,5 @@
 -- The promise allows one outcome; there are no more shells than points; document 01's figures.
-pub mod OneOutcome
+pub mod OneShellList
 pub mod Few
 pub mod Figures
 -- Records that grow become those of the shells; how the call ends.

@@ -10,14 +10,14 @@ use Rattle.laws.proofs.Tests.{both}
 use Rattle.grid.specs.Limits.{mostRounds, mostWeight}
 use Rattle.grid.specs.Grid.{axes, mark}
 use Rattle.grid.specs.Work.{size}
-use Rattle.extract.specs.Outcome.{Rooms, Outcome, pointList, triangleList, granted}
+use Rattle.extract.specs.Extraction.{Rooms, Outcome, pointList, triangleList, granted}
 use Rattle.extract.specs.Promise.{Extracts}
 use Rattle.closed.specs.Left.{meshLeft, edgesLeft}
 use Rattle.closed.proofs.Granted.{Granted, left-granted, length-flat-triangles}
 use Rattle.closed.proofs.Passes.{extract-passes}
 use Rattle.gridtext.specs.declared.Parsed.{Parsed}
 use Rattle.gridtext.proofs.Checks.{passed}
-use Rattle.small.specs.Sizes.{mostPoints, mostTriangles, mostOutput}
+use Rattle.small.specs.Sizes.{mostSmallPoints, mostSmallTriangles, mostOutput}
 use Rattle.small.specs.Answer.{gridEdges, extractedMesh}
 use Rattle.small.specs.Promise.{meshOf, SmallMesh, headIn, SmallGrid}
 use Rattle.small.proofs.Steps.{RoomsHold, points-few, triangles-few, extract-granted}
@@ -44,18 +44,18 @@ module _ (p : Parsed) (samples : List ℕ) (small : SmallGrid p samples) where
     left : Granted (p .nx) (p .ny) (p .nz) (p .grey) samples before after
     left = left-granted (p .nx) (p .ny) (p .nz) (p .grey) samples before after extracts none
 
-    few-left : length points ≤ mostPoints
+    few-left : length points ≤ mostSmallPoints
     few-left =
         let c = passed (headIn p) (small .0) in
         points-few (p .nx) (p .ny) (p .nz) (p .grey) samples before (c .0) (c .1) (small .1) hold
 
-    few-made : length (triangleList (size (p .nx) (p .ny) (p .nz)) (p .grey) samples before) ≤ mostTriangles
+    few-made : length (triangleList (size (p .nx) (p .ny) (p .nz)) (p .grey) samples before) ≤ mostSmallTriangles
     few-made =
         let c = passed (headIn p) (small .0) in
         triangles-few (p .nx) (p .ny) (p .nz) (p .grey) samples before (c .0) (c .1) (small .1) hold
 
     -- the counts
-    pub points-counted : (after .pointCount ≤ mostPoints) × (length (edgesLeft after) ≡ after .pointCount) × (length (meshLeft after .marks) ≡ after .pointCount)
+    pub points-counted : (after .pointCount ≤ mostSmallPoints) × (length (edgesLeft after) ≡ after .pointCount) × (length (meshLeft after .marks) ≡ after .pointCount)
     unfolding granted
     points-counted =
         let e = ap (λ o. o .pointCount) left-is in (
@@ -64,7 +64,7 @@ module _ (p : Parsed) (samples : List ℕ) (small : SmallGrid p samples) where
           ap length (left .marks-are) ∙ (length-map points (mark axes (size (p .nx) (p .ny) (p .nz))) ∙ sym e),
         )
 
-    pub triangles-counted : after .triangleCount ≤ mostTriangles
+    pub triangles-counted : after .triangleCount ≤ mostSmallTriangles
     unfolding granted
     triangles-counted = omega (arith, ap (λ o. o .triangleCount) left-is, few-made)
 

@@ -26,13 +26,13 @@ use Rattle.meshtext.proofs.MeshTexts.{mesh-written}
 use Rattle.small.specs.Answer.{Prints}
 use Rattle.small.specs.Promise.{meshOf, SmallMesh}
 use Rattle.listing.proofs.Handed.{four-each}
-use Rattle.listing.specs.Listing.{mostListed, numbersOf, numbersHanded, volumesHanded, Listing}
+use Rattle.listing.specs.Listing.{mostListed, recordNumbers, numbersHanded, volumesHanded, Listing}
 
 -- what was handed on, read again
-numbers-front : (count : ℕ) (shell : ℕ → Shell) (room : List ℕ) → take (4 * count) (numbersHanded count shell room) ≡ joinTo count (λ n. numbersOf (shell n))
+numbers-front : (count : ℕ) (shell : ℕ → Shell) (room : List ℕ) → take (4 * count) (numbersHanded count shell room) ≡ joinTo count (λ n. recordNumbers (shell n))
 unfolding numbersHanded
 numbers-front count shell room =
-    laid-read (joinTo count (λ n. numbersOf (shell n))) room (4 * count) (four-each count shell)
+    laid-read (joinTo count (λ n. recordNumbers (shell n))) room (4 * count) (four-each count shell)
 
 volumes-front : (count : ℕ) (shell : ℕ → Shell) (room : List ℤ) → take count (volumesHanded count shell room) ≡ listTo count (λ n. shell n .volume)
 unfolding volumesHanded
@@ -42,7 +42,7 @@ volumes-front count shell room = laid-read (listTo count (λ n. shell n .volume)
 pub record Told (points triangles marks : List ℕ) (o : Outcome) (records : List ℕ) (volumes : List ℤ) : Type 0 where
   pub numbering : Numbering (trianglesOf triangles) (length marks) (o .numbers) (o .shells)
   pub most : o .shells ≤ mostListed
-  pub numbers-are : take (4 * o .shells) records ≡ joinTo (o .shells) (λ n. numbersOf (recordOf points triangles marks (o .numbers) n))
+  pub numbers-are : take (4 * o .shells) records ≡ joinTo (o .shells) (λ n. recordNumbers (recordOf points triangles marks (o .numbers) n))
   pub volumes-are : take (o .shells) volumes ≡ listTo (o .shells) (λ n. recordOf points triangles marks (o .numbers) n .volume)
 
 module _ (points triangles marks numbers work : List ℕ) (passes : meshNumber points triangles marks ≡ 0) (few : length marks ≤ mostListed)

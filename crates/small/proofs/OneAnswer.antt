@@ -12,7 +12,7 @@ use Rattle.mesh.specs.Mesh.{trianglesOf}
 use Rattle.records.specs.Record.{recordOf}
 use Rattle.shellnumbers.proofs.OneNumbering.{one-numbering}
 use Rattle.closed.specs.Left.{Mesh}
-use Rattle.listing.specs.Listing.{numbersOf}
+use Rattle.listing.specs.Listing.{recordNumbers}
 use Rattle.gridtext.specs.Grid.{samplesOf, granted, readGrid}
 use Rattle.meshtext.specs.MeshText.{meshText}
 use Rattle.gridtext.specs.GridText.{Small, gridText}
@@ -28,7 +28,7 @@ one-print m edges a b p q =
     let u = one-numbering (trianglesOf (m .triangles)) (length (m .marks)) (p .numbers) (q .numbers) (p .shells) (q .shells) (p .numbering) (q .numbering) in
     let record-of = recordOf (m .points) (m .triangles) (m .marks) in
     p .written
-    ∙ (ap₂ (λ found shells. meshText (m .points) edges (m .marks) (m .triangles) (joinTo shells (λ n. numbersOf (record-of found n))) (listTo shells (λ n. record-of found n .volume))) (u .0) (u .1)
+    ∙ (ap₂ (λ found shells. meshText (m .points) edges (m .marks) (m .triangles) (joinTo shells (λ n. recordNumbers (record-of found n))) (listTo shells (λ n. record-of found n .volume))) (u .0) (u .1)
     ∙ sym (q .written))
 
 abbrev room : List ℕ

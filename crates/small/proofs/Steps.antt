@@ -10,30 +10,30 @@ use Rattle.grid.specs.Limits.{mostSmall, mostRounds, mostWeight}
 use Rattle.grid.specs.Sides.{sidesFit}
 use Rattle.grid.specs.Grid.{Size, axes, isAboveGrey, sampleCount, edgeCount}
 use Rattle.grid.specs.Work.{size}
-use Rattle.extract.specs.Outcome.{Rooms, pointList, triangleList, pointRoom, triangleRoom, granted, measured, extracted}
+use Rattle.extract.specs.Extraction.{Rooms, pointList, triangleList, pointRoom, triangleRoom, granted, measured, extracted}
 use Rattle.mesh.specs.Mesh.{triangleCount, trianglesOf}
 use Rattle.mesh.specs.Check.{meshNumber}
 use Rattle.rounds.specs.Round.{rounds}
 use Rattle.smooth.specs.Smooth.{roomsFit, smoothNumber, smoothed}
-use Rattle.small.specs.Sizes.{mostPoints, mostTriangles}
+use Rattle.small.specs.Sizes.{mostSmallPoints, mostSmallTriangles}
 use Rattle.small.proofs.Few.{few-points, few-triangles}
 
 -- the rooms that the program lends the extractor
 pub record RoomsHold (samples : ℕ) (r : Rooms) : Type 0 where
-  pub points : length (r .points) ≡ 3 * mostPoints
-  pub edges : length (r .edges) ≡ mostPoints
-  pub marks : length (r .marks) ≡ mostPoints
-  pub triangles : length (r .triangles) ≡ 3 * mostTriangles
+  pub points : length (r .points) ≡ 3 * mostSmallPoints
+  pub edges : length (r .edges) ≡ mostSmallPoints
+  pub marks : length (r .marks) ≡ mostSmallPoints
+  pub triangles : length (r .triangles) ≡ 3 * mostSmallTriangles
   pub work : length (r .work) ≡ 3 * samples
 
 module _ (nx ny nz grey : ℕ) (samples : List ℕ) (r : Rooms) (fit : sidesFit nx ny nz ≡ true) (small : nx * (ny * nz) ≤ mostSmall) (all : length samples ≡ nx * (ny * nz)) (hold : RoomsHold (length samples) r) where
   abbrev n : Size
   n = size nx ny nz
 
-  pub points-few : length (pointList n grey samples r) ≤ mostPoints
+  pub points-few : length (pointList n grey samples r) ≤ mostSmallPoints
   points-few = omega (arith, few-points n (isAboveGrey grey samples))
 
-  pub triangles-few : length (triangleList n grey samples r) ≤ mostTriangles
+  pub triangles-few : length (triangleList n grey samples r) ≤ mostSmallTriangles
   triangles-few = omega (arith, few-triangles n (isAboveGrey grey samples))
 
   pub extract-granted : extracted nx ny nz grey samples r ≡ granted n grey samples r

@@ -14,7 +14,7 @@ use Rattle.mesh.specs.Mesh.{trianglesOf}
 use Rattle.shellnumbers.specs.Numbering.{Numbering}
 use Rattle.records.specs.Record.{recordOf}
 use Rattle.closed.specs.Left.{Mesh, smoothed}
-use Rattle.listing.specs.Listing.{numbersOf}
+use Rattle.listing.specs.Listing.{recordNumbers}
 use Rattle.writing.specs.Writing.{refusalText}
 use Rattle.meshtext.specs.MeshText.{meshText}
 use Rattle.gridtext.specs.Grid.{readGrid}
@@ -46,7 +46,7 @@ pub record Prints (m : Mesh) (edges text : List ℕ) : Type 0 where
   pub numbering : Numbering (trianglesOf (m .triangles)) (length (m .marks)) numbers shells
   pub written :
       let record-of = recordOf (m .points) (m .triangles) (m .marks) numbers in
-      text ≡ meshText (m .points) edges (m .marks) (m .triangles) (joinTo shells (λ n. numbersOf (record-of n))) (listTo shells (λ n. record-of n .volume))
+      text ≡ meshText (m .points) edges (m .marks) (m .triangles) (joinTo shells (λ n. recordNumbers (record-of n))) (listTo shells (λ n. record-of n .volume))
 
 -- an input as it is read
 abbrev pub parsed : List ℕ → Parsed

@@ -8,7 +8,7 @@ use Rattle.closed.specs.Left.{Mesh}
 use Rattle.gridtext.specs.Grid.{samplesOf, headNumber}
 use Rattle.gridtext.specs.declared.Head.{Head}
 use Rattle.gridtext.specs.declared.Parsed.{Parsed}
-use Rattle.small.specs.Sizes.{mostPoints, mostTriangles, mostOutput}
+use Rattle.small.specs.Sizes.{mostSmallPoints, mostSmallTriangles, mostOutput}
 
 abbrev pub meshOf : List ℕ → List ℕ → List ℕ → Mesh
 meshOf points triangles marks = record { points = points; triangles = triangles; marks = marks }
@@ -17,8 +17,8 @@ meshOf points triangles marks = record { points = points; triangles = triangles;
 pub record SmallMesh (points edges marks triangles : List ℕ) (output : ℕ) : Type 0 where
   pub passes : meshNumber points triangles marks ≡ 0
   pub edged : length edges ≡ length marks
-  pub few-points : length marks ≤ mostPoints
-  pub few-triangles : length triangles / 3 ≤ mostTriangles
+  pub few-points : length marks ≤ mostSmallPoints
+  pub few-triangles : length triangles / 3 ≤ mostSmallTriangles
   pub room : mostOutput ≤ output
 
 -- line 1's numbers, as they were read

@@ -5,16 +5,16 @@ use Rattle.gridtext.specs.Grid.{mostRead}
 use Rattle.meshtext.specs.MeshText.{longest}
 
 -- at most three grid edges leave a sample, so there are at most three points a sample, and no more shells than points
-abbrev pub mostPoints : ℕ
-mostPoints = 3 * mostSmall
+abbrev pub mostSmallPoints : ℕ
+mostSmallPoints = 3 * mostSmall
 
 -- a case has at most five triangles, and there are fewer cubes than samples
-abbrev pub mostTriangles : ℕ
-mostTriangles = 5 * mostSmall
+abbrev pub mostSmallTriangles : ℕ
+mostSmallTriangles = 5 * mostSmall
 
 -- no more of a text is looked at
 abbrev pub mostInput : ℕ
 mostInput = mostRead
 
 abbrev pub mostOutput : ℕ
-mostOutput = longest mostPoints mostTriangles mostPoints
+mostOutput = longest mostSmallPoints mostSmallTriangles mostSmallPoints

@@ -3,20 +3,23 @@
 ghost use mathlib.Core.Path.{_≡_};
 ghost use Prim.Native.Nat.{_+_, _*_};
 ghost use lib.ListN.{length};
-ghost use Rattle.small.specs.Sizes.{mostPoints, mostTriangles, mostInput, mostOutput};
+ghost use Rattle.small.specs.Sizes.{mostSmallPoints, mostSmallTriangles, mostInput, mostOutput};
 use grid::limits::MOST_SMALL;
 
 // At most three grid edges leave a sample.
-pub const MOST_POINTS: usize = 3 * (MOST_SMALL as usize);
+pub const MOST_SMALL_POINTS: usize = 3 * (MOST_SMALL as usize);
 
 // A case has at most five triangles, and there are fewer cubes than samples.
-pub const MOST_TRIANGLES: usize = 5 * (MOST_SMALL as usize);
+pub const MOST_SMALL_TRIANGLES: usize = 5 * (MOST_SMALL as usize);
 
 // Line 1 takes at most 38 bytes and a sample six; one more byte shows that something follows.
 pub const MOST_INPUT: usize = 38 + 6 * (MOST_SMALL as usize) + 1;
 
 // The longest text of a mesh with so many points, triangles and shells, of which there are no more than points.
-pub const MOST_OUTPUT: usize = 65 + 107 * MOST_POINTS + 65 * MOST_TRIANGLES + 107 * MOST_POINTS;
+pub const MOST_OUTPUT: usize = 65
+    + 107 * MOST_SMALL_POINTS
+    + 65 * MOST_SMALL_TRIANGLES
+    + 107 * MOST_SMALL_POINTS;
 
 pub fn input() -> [u8; MOST_INPUT]
     ensures { λ r. ⌜ mostInput ≡ length r ⌝ }
@@ -31,56 +34,56 @@ pub fn output() -> [u8; MOST_OUTPUT]
 }
 
 // A number a point.
-pub fn numbers() -> [u32; MOST_POINTS]
-    ensures { λ r. ⌜ mostPoints ≡ length r ⌝ }
+pub fn numbers() -> [u32; MOST_SMALL_POINTS]
+    ensures { λ r. ⌜ mostSmallPoints ≡ length r ⌝ }
 {
-    [0; MOST_POINTS]
+    [0; MOST_SMALL_POINTS]
 }
 
-pub fn marks() -> [u8; MOST_POINTS]
-    ensures { λ r. ⌜ mostPoints ≡ length r ⌝ }
+pub fn marks() -> [u8; MOST_SMALL_POINTS]
+    ensures { λ r. ⌜ mostSmallPoints ≡ length r ⌝ }
 {
-    [0; MOST_POINTS]
+    [0; MOST_SMALL_POINTS]
 }
 
 // Three coordinates a point.
-pub fn places() -> [u32; 3 * MOST_POINTS]
-    ensures { λ r. ⌜ 3 * mostPoints ≡ length r ⌝ }
+pub fn places() -> [u32; 3 * MOST_SMALL_POINTS]
+    ensures { λ r. ⌜ 3 * mostSmallPoints ≡ length r ⌝ }
 {
-    [0; 3 * MOST_POINTS]
+    [0; 3 * MOST_SMALL_POINTS]
 }
 
 // Three points a triangle.
-pub fn triangles() -> [u32; 3 * MOST_TRIANGLES]
-    ensures { λ r. ⌜ 3 * mostTriangles ≡ length r ⌝ }
+pub fn triangles() -> [u32; 3 * MOST_SMALL_TRIANGLES]
+    ensures { λ r. ⌜ 3 * mostSmallTriangles ≡ length r ⌝ }
 {
-    [0; 3 * MOST_TRIANGLES]
+    [0; 3 * MOST_SMALL_TRIANGLES]
 }
 
 // The work room of smoothing.
-pub fn smoothing() -> [u32; 6 * MOST_TRIANGLES + 5 * MOST_POINTS + 1]
-    ensures { λ r. ⌜ 6 * mostTriangles + 5 * mostPoints + 1 ≡ length r ⌝ }
+pub fn smoothing() -> [u32; 6 * MOST_SMALL_TRIANGLES + 5 * MOST_SMALL_POINTS + 1]
+    ensures { λ r. ⌜ 6 * mostSmallTriangles + 5 * mostSmallPoints + 1 ≡ length r ⌝ }
 {
-    [0; 6 * MOST_TRIANGLES + 5 * MOST_POINTS + 1]
+    [0; 6 * MOST_SMALL_TRIANGLES + 5 * MOST_SMALL_POINTS + 1]
 }
 
 // The work room of the shells.
-pub fn listing() -> [u32; 2 * MOST_POINTS]
-    ensures { λ r. ⌜ 2 * mostPoints ≡ length r ⌝ }
+pub fn listing() -> [u32; 2 * MOST_SMALL_POINTS]
+    ensures { λ r. ⌜ 2 * mostSmallPoints ≡ length r ⌝ }
 {
-    [0; 2 * MOST_POINTS]
+    [0; 2 * MOST_SMALL_POINTS]
 }
 
 // Four numbers a shell.
-pub fn records() -> [u32; 4 * MOST_POINTS]
-    ensures { λ r. ⌜ 4 * mostPoints ≡ length r ⌝ }
+pub fn records() -> [u32; 4 * MOST_SMALL_POINTS]
+    ensures { λ r. ⌜ 4 * mostSmallPoints ≡ length r ⌝ }
 {
-    [0; 4 * MOST_POINTS]
+    [0; 4 * MOST_SMALL_POINTS]
 }
 
 // A volume a shell.
-pub fn volumes() -> [i64; MOST_POINTS]
-    ensures { λ r. ⌜ mostPoints ≡ length r ⌝ }
+pub fn volumes() -> [i64; MOST_SMALL_POINTS]
+    ensures { λ r. ⌜ mostSmallPoints ≡ length r ⌝ }
 {
-    [0; MOST_POINTS]
+    [0; MOST_SMALL_POINTS]
 }

@@ -18,7 +18,7 @@ use Rattle.laws.proofs.Sums.{all-weaken}
 use Rattle.cube.specs.Cube.{cornerX, cornerY, cornerZ, caseOf, isAbove}
 use Rattle.cube.specs.Face.{cuts, wayRound, faceSegments, segmentsOf}
 use Rattle.cube.specs.Loop.{loops, fan}
-use Rattle.cube.specs.Answer.{segments, triangles, count, triangleAt, answer, row, table}
+use Rattle.cube.specs.Answer.{segments, triangles, count, cornersAt, answer, row, table}
 use Rattle.cube.proofs.Places.{entry}
 use Rattle.cube.proofs.Cases.{CrossedEdge, CrossedSide, sides-crossed}
 use Rattle.grid.specs.Grid.{site}
@@ -88,7 +88,7 @@ corners-first (a ∷ b ∷ c ∷ d ∷ e ∷ []) h = refl
 corners-first (a ∷ b ∷ c ∷ d ∷ e ∷ f ∷ ts) h = absurd (omega arith)
 
 pub corner-in-table : (k j : ℕ) → k < 256 → j < 3 * count k → getD table (15 * k + j) 0 ≡ getD (flat (triangles k)) j 0
-unfolding count row answer triangleAt fifteen
+unfolding count row answer cornersAt fifteen
 corner-in-table k j h l =
     let most : length (triangles k) ≤ 5 = count-most k h in
     let here : 15 * k + j ≡ k * 15 + j = omega arith in

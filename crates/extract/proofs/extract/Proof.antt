@@ -5,7 +5,7 @@ use native.Mathlib.Omega.{arith}
 use borrow.Author.Tests.{not-true, not-false}
 use Rattle.grid.specs.Sides.{sidesFit}
 use Rattle.grid.proofs.Sides.{sides-within}
-use Rattle.extract.specs.Outcome.{Rooms}
+use Rattle.extract.specs.Extraction.{Rooms}
 use Rattle.extract.specs.Promise.{rooms}
 use Rattle.extract.proofs.Ways.{rows-most}
 use Rattle.extract.proofs.Refusals.{samples-most, refused-sides, refused-samples, refused-work, past-lengths}

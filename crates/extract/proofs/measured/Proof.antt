@@ -6,7 +6,7 @@ use mathlib.Core.Bool.{false}
 use lib.Dec.{ltb}
 use lib.ListN.{length, replicate, length-replicate}
 use Rattle.grid.specs.Limits.{mostPoints}
-use Rattle.extract.specs.Outcome.{Rooms}
+use Rattle.extract.specs.Extraction.{Rooms}
 use Rattle.extract.specs.Promise.{rooms}
 use Rattle.extract.proofs.Ways.{rows-most, too-many-points, too-many-triangles, all-granted, rooms-hold, triangles-hold}
 use borrow.Author.Needs.{needs}

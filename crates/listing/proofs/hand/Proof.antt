@@ -13,7 +13,7 @@ use Rattle.records.proofs.Shell as T
 use Rattle.records.proofs.Shell.Laws as T′
 use Rattle.records.specs.declared.Shell.{Shell}
 use Rattle.records.specs.Grown.{none}
-use Rattle.listing.specs.Listing.{numbersOf}
+use Rattle.listing.specs.Listing.{recordNumbers}
 use Rattle.walks.proofs.Lent.{sint-elem, looks-at, shuts-at}
 use Rattle.listing.proofs.lay as lay
 use Rattle.listing.proofs.lay.Symbol as lay-def
@@ -71,7 +71,7 @@ module _ {M : Type 1} (𝓤 : URA M) (H : Heap 𝓤) (A : Atoms 𝓤) (W : Given
 
   -- the rooms after the call
   abbrev numbers : List ℕ
-  numbers = sets records (4 * n) (numbersOf it)
+  numbers = sets records (4 * n) (recordNumbers it)
 
   abbrev vols : List ℤ
   vols = set volumes n (it .volume)

@@ -9,7 +9,7 @@ use Rattle.walks.proofs.Slices.{uint-elem, Mut as MutOf, ref as refOf, lends, c
 use Rattle.shells.proofs.Records.{R}
 use Rattle.records.specs.declared.Shell.{Shell}
 use Rattle.records.specs.Grown.{none}
-use Rattle.listing.specs.Listing.{numbersOf, numbersHanded, volumesHanded}
+use Rattle.listing.specs.Listing.{recordNumbers, numbersHanded, volumesHanded}
 use denote.Memory.{pointee}
 use Rattle.walks.proofs.Lent.{sint-elem}
 use Rattle.listing.proofs.Handed.{numbers-none, numbers-more, numbers-long, volumes-none, volumes-more, volumes-long}
@@ -151,8 +151,8 @@ module _ {M : Type 1} (𝓤 : URA M) (H : Heap 𝓤) (A : Atoms 𝓤) (W : Given
         use2 W (raw (Hand 𝓤 H A mem run .pre (to (j .0) ν₀ δ₀ ν₁ δ₁))) (asked (j .0) ν₀ δ₀ ν₁ δ₁ (ltb→lt (j .0) count less)) $
         calls-at ! fm (Hand 𝓤 H A mem run) known-hand (to (j .0) ν₀ δ₀ ν₁ δ₁) (and-then ! (load ! (from ! (stop !)) (look ! 30 refl)) (and-then ! (load ! (from ! (stop !)) (look ! 22 refl)) (and-then ! (load ! (from ! (stop !)) (look ! 14 refl)) (and-then ! (load ! (from ! (stop !)) (look ! 10 refl)) (no-more !))))) (λ w.
         use1 W (later (some (λ (h : Unit {0}). ((‵ (flft κ0 q0) ⊛ ‵ (flft (ν₀ ∷ []) fullShare) ⊛ ‵ (flft (ν₁ ∷ []) fullShare) ⊛ ‵ ftrue) ⊛ ‵ (unit .own h (w ∷ []))) ⊛ raw (ensured 𝓤 H A hand.ended (hand.clauses 𝓤 H A mem run) (lfts (j .0) ν₀ δ₀ ν₁ δ₁) (args (j .0) ν₀ δ₀ ν₁ δ₁) tt h)))) (id⊢ 𝓤 _) $ await ! tt $ pick ! (λ r.
-        split ! $ move ! (1 ∷ []) $ use1 W (some (λ (us : Unit {0} × (Unit {0} × (List ℕ × (List ℤ × Unit {0})))). ‵ (lasts hand.ended (lfts (j .0) ν₀ δ₀ ν₁ δ₁) (args (j .0) ν₀ δ₀ ν₁ δ₁) us) ⊛ raw (fact 𝓤 (((us .1 .1 .0) ≡ sets (numbers (j .0)) (4 * j .0) (numbersOf (shell (j .0)))) × ((us .1 .1 .1 .0) ≡ set (vols (j .0)) (j .0) (shell (j .0) .volume)))))) (id⊢ 𝓤 _) $ pick ! (λ zs.
-        split ! $ move ! (1 ∷ []) $ heard ! (((zs .1 .1 .0) ≡ sets (numbers (j .0)) (4 * j .0) (numbersOf (shell (j .0)))) × ((zs .1 .1 .1 .0) ≡ set (vols (j .0)) (j .0) (shell (j .0) .volume))) (λ e. fsplit ! $ drop ! $ fsplit ! $ drop ! $ fsplit ! $ fsplit ! $ move ! (1 ∷ []) $ feqL ! (λ l-records. move ! (1 ∷ []) $ fsplit ! $ fsplit ! $ move ! (1 ∷ []) $ feqL ! (λ l-volumes. move ! (1 ∷ []) $ drop ! $ move ! (2 ∷ []) $ split ! $ move ! (1 ∷ []) $ peeks ! unit (Is unit) (shows 𝓤 H A unit) r (w ∷ []) (λ is-r.
+        split ! $ move ! (1 ∷ []) $ use1 W (some (λ (us : Unit {0} × (Unit {0} × (List ℕ × (List ℤ × Unit {0})))). ‵ (lasts hand.ended (lfts (j .0) ν₀ δ₀ ν₁ δ₁) (args (j .0) ν₀ δ₀ ν₁ δ₁) us) ⊛ raw (fact 𝓤 (((us .1 .1 .0) ≡ sets (numbers (j .0)) (4 * j .0) (recordNumbers (shell (j .0)))) × ((us .1 .1 .1 .0) ≡ set (vols (j .0)) (j .0) (shell (j .0) .volume)))))) (id⊢ 𝓤 _) $ pick ! (λ zs.
+        split ! $ move ! (1 ∷ []) $ heard ! (((zs .1 .1 .0) ≡ sets (numbers (j .0)) (4 * j .0) (recordNumbers (shell (j .0)))) × ((zs .1 .1 .1 .0) ≡ set (vols (j .0)) (j .0) (shell (j .0) .volume))) (λ e. fsplit ! $ drop ! $ fsplit ! $ drop ! $ fsplit ! $ fsplit ! $ move ! (1 ∷ []) $ feqL ! (λ l-records. move ! (1 ∷ []) $ fsplit ! $ fsplit ! $ move ! (1 ∷ []) $ feqL ! (λ l-volumes. move ! (1 ∷ []) $ drop ! $ move ! (2 ∷ []) $ split ! $ move ! (1 ∷ []) $ peeks ! unit (Is unit) (shows 𝓤 H A unit) r (w ∷ []) (λ is-r.
         land ! (from ! (stop !)) (init ! 21 refl (nothing-lawful 𝓤 H A W .typed r _ is-r .0)) $ drop ! $ split ! $ move ! (1 ∷ []) $ split ! $ move ! (1 ∷ []) $ split ! $ move ! (1 ∷ []) $ drop ! $
         move ! (1 ∷ 10 ∷ 11 ∷ 12 ∷ 13 ∷ 4 ∷ []) $ comes ! (uint-elem w32) tt (length records) (numbers (j .0)) (zs .1 .1 .0) b-records o-records (long-numbers (j .0) (j .1)) room-records l-records $
         move ! (2 ∷ 6 ∷ 7 ∷ 8 ∷ 9 ∷ 4 ∷ []) $ comes ! (sint-elem w64) tt (length volumes) (vols (j .0)) (zs .1 .1 .1 .0) b-volumes o-volumes (long-vols (j .0) (j .1)) room-volumes l-volumes $

@@ -9,7 +9,7 @@ use borrow.Author.Needs.{needs}
 use borrow.Author.Tests.{not-true, not-false}
 use Rattle.rows.specs.Rows.{sizeOf}
 use Rattle.pointplaces.specs.Places.{Rooms, rooms, Placeable}
-use Rattle.pointplaces.proofs.Placing.{offset-small, point-written}
+use Rattle.pointplaces.proofs.Placing.{offset-fits, point-written}
 use Rattle.pointplaces.proofs.places.place_edge.Statement.{statement}
 use Rattle.pointplaces.proofs.places.place_edge.Tie as tie
 
@@ -75,7 +75,7 @@ point-on-requires c κs =
     let s = start (step .before) in
     let v0 = c .before .before .shared-slice-known2 .given (s .args .at .s) .fits in
     let v1 = c .before .shared-slice-known3 .given (s .args .at .s + step .step-of .result) .fits in
-    (s .pre .0, (s .pre .1 .0, rw (c .offset .ensures) (offset-small _ _ _ v0 v1 (s .fits .grey .fits))))
+    (s .pre .0, (s .pre .1 .0, rw (c .offset .ensures) (offset-fits _ _ _ v0 v1 (s .fits .grey .fits))))
 
 write-point-requires : tie.Need-write-point-requires
 write-point-requires c κs = able (c .before .before .before .before .before .before .before .before) .room

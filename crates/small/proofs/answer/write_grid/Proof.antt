@@ -5,11 +5,11 @@ use native.Mathlib.Omega.{arith}
 use lib.ListN.{length, take}
 use lib.Seq.{length-take-le}
 use borrow.Author.Needs.{needs}
-use Rattle.extract.specs.Outcome.{Rooms, Outcome}
+use Rattle.extract.specs.Extraction.{Rooms, Outcome}
 use Rattle.extract.specs.Promise.{rooms, left}
 use Rattle.closed.specs.Left.{meshLeft, edgesLeft, smoothed}
 use Rattle.gridtext.proofs.Checks.{passed}
-use Rattle.small.specs.Sizes.{mostPoints, mostTriangles}
+use Rattle.small.specs.Sizes.{mostSmallPoints, mostSmallTriangles}
 use Rattle.small.specs.Answer.{gridEdges, smoothedMesh, Prints}
 use Rattle.small.specs.Promise.{headIn}
 use Rattle.small.proofs.Steps.{RoomsHold}
@@ -94,10 +94,10 @@ module _ (c : tie.After-extract) where
         work = working w;
       }
 
-  counted : c .extract .result .points ≤ mostPoints
+  counted : c .extract .result .points ≤ mostSmallPoints
   counted = points-counted (s .args .grid) (s .args .samples .now) (s .pre .0) lent after hold (c .extract .ensures) .0
 
-  made : c .extract .result .triangles ≤ mostTriangles
+  made : c .extract .result .triangles ≤ mostSmallTriangles
   made = triangles-counted (s .args .grid) (s .args .samples .now) (s .pre .0) lent after hold (c .extract .ensures)
 
   -- each room holds what is read from its front

@@ -2,9 +2,9 @@
 use mathlib.Core.Path.{_≡_}
 use mathlib.Core.List.{List}
 use Prim.Native.Nat.{ℕ}
-use Rattle.extract.specs.Outcome.{Rooms, Outcome}
+use Rattle.extract.specs.Extraction.{Rooms, Outcome}
 use Rattle.extract.specs.Promise.{Extracts}
 
-pub one-outcome : (nx ny nz grey : ℕ) (samples : List ℕ) (before : Rooms) (one other : Outcome) → Extracts nx ny nz grey samples before one
+pub one-extraction : (nx ny nz grey : ℕ) (samples : List ℕ) (before : Rooms) (one other : Outcome) → Extracts nx ny nz grey samples before one
     → Extracts nx ny nz grey samples before other → one ≡ other
-one-outcome nx ny nz grey samples before one other p q = cc
+one-extraction nx ny nz grey samples before one other p q = cc

@@ -7,8 +7,8 @@ use Rattle.cube.specs.Promise.{Counted, Answered, EdgeRead, Rows, Counts
 pub one-count : (case r s : ℕ) → Counted case r → Counted case s → r ≡ s
 one-count case r s p q = cc
 
-pub one-answer : (case : ℕ) (r s : List (List ℕ)) → Answered case r → Answered case s → r ≡ s
-one-answer case r s p q = cc
+pub one-case-answer : (case : ℕ) (r s : List (List ℕ)) → Answered case r → Answered case s → r ≡ s
+one-case-answer case r s p q = cc
 
 pub one-edge : (case place r s : ℕ) → EdgeRead case place r → EdgeRead case place s → r ≡ s
 one-edge case place r s p q = cc

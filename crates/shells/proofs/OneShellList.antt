@@ -26,8 +26,8 @@ module _ (points triangles marks : List ℕ) where
       let u = one-numbering (trianglesOf triangles) (length marks) f f′ s s′ N N′ in
       e ∙ ap₂ (λ k xs. left 0 k xs (replicate (length work) 0)) (u .1) (u .0) ∙ sym e′
 
-  pub one-outcome : (numbers work : List ℕ) (room : List Shell) (o o′ : Outcome) (after after′ : List Shell) → Shells points triangles marks numbers work room o after
+  pub one-shell-list : (numbers work : List ℕ) (room : List Shell) (o o′ : Outcome) (after after′ : List Shell) → Shells points triangles marks numbers work room o after
       → Shells points triangles marks numbers work room o′ after′ → (o ≡ o′) × (after ≡ after′)
-  one-outcome numbers work room o o′ after after′ a b =
+  one-shell-list numbers work room o o′ after after′ a b =
       let e = one-list (length room) numbers work o o′ (a .lists) (b .lists) in
       (e, a .records ∙ ap (λ x. recordsAfter points triangles marks x room) e ∙ sym (b .records))

@@ -19,20 +19,20 @@ pub record Outcome : Type 0 where
   pub vectors : List Float
 
 -- a point's sums over the whole mesh
-unfoldable pub sumOf : List ℕ → List ℕ → ℕ → Sum
-sumOf points triangles point = sumAfter points triangles point (triangleCount triangles) start
+unfoldable pub sumsFor : List ℕ → List ℕ → ℕ → Sum
+sumsFor points triangles point = sumAfter points triangles point (triangleCount triangles) start
 
 module _ (points triangles marks : List ℕ) where
   -- a point's answer
   unfoldable pub answerFor : ℕ → Answer
-  answerFor point = answer (getD marks point 0) (sumOf points triangles point)
+  answerFor point = answer (getD marks point 0) (sumsFor points triangles point)
 
   -- V areas and 3V vector numbers
   unfoldable pub granted : Outcome
   granted =
       record {
         number = 0;
-        areas = joinTo (length marks) (λ point. sumOf points triangles point .area ∷ []);
+        areas = joinTo (length marks) (λ point. sumsFor points triangles point .area ∷ []);
         vectors = joinTo (length marks) (λ point. numbersOf (storedVector (answerFor point)));
       }
 
