@@ -1,7 +1,7 @@
 -- A granted shell list is right, and a shell in it that touches no outer face is closed, if the mesh was extracted here, smoothed here or not.
 use mathlib.Core.Path.{_≡_, refl, ap, sym, _∙_}
 use mathlib.Core.List.{List, [], _∷_, _++_}
-use mathlib.Core.Bool.{Bool, true, false, cond, _||_, true≢false}
+use mathlib.Core.Bool.{Bool, true, false, cond, _&&_, _||_, true≢false}
 use Prim.Native.Nat.{ℕ, zero, suc, _<_, _≤_}
 use native.Mathlib.Decide.{decLt}
 use native.Mathlib.Omega.{arith}
@@ -12,33 +12,36 @@ use Rattle.laws.specs.Range.{keepTo, countTo, one-if}
 use Rattle.laws.specs.Room.{laid}
 use Rattle.laws.specs.Mesh.{Triangle, sides}
 use Rattle.laws.specs.Values.{listTo}
-use Rattle.laws.proofs.Ranges.{of-join}
+use Rattle.laws.proofs.Ranges.{of-join, sum-cong, count-cong}
 use Rattle.laws.proofs.Keep.{rank-lt, at-rank, length-keep}
 use Rattle.laws.proofs.Sums.{all-append}
 use Rattle.laws.proofs.Sides.{sides-append}
-use Rattle.laws.proofs.Values.{laid-at}
+use Rattle.laws.proofs.Rooms.{length-laid}
+use Rattle.laws.proofs.Values.{length-list, laid-at}
 use Rattle.mesh.specs.Mesh.{triangleCount, triangleAt, trianglesOf}
 use Rattle.mesh.specs.Check.{trianglesFit, allWithin}
 use Rattle.extract.specs.Outcome.{Rooms, Outcome as Extracted}
 use Rattle.extract.specs.Promise.{Extracts}
 use Rattle.shells.specs.declared.Shell.{Shell}
 use Rattle.shells.specs.Numbering.{numberOf, Numbering}
-use Rattle.shells.specs.Record.{anyOf, pointsUnder, recordFrom, recordOf}
+use Rattle.shells.specs.Record.{anyOf, pointsUnder, namesUnder, trianglesUnder, recordFrom, recordOf}
 use Rattle.shells.specs.Promise.{Outcome, Lists, refused, crowded, granted, recordsAfter, Shells}
 use Rattle.mesh.proofs.Places.{within-any}
 use Rattle.mesh.proofs.Passed.{corners}
 use Rattle.shells.proofs.Sound.{passed}
 use Rattle.shells.proofs.Leading.{led-first, led-second}
-use Rattle.shells.proofs.Lows.{by-lowest, lows-rise}
+use Rattle.shells.proofs.Lows.{ByLowest, by-lowest, lows-rise}
 use Rattle.shells.proofs.Totals.{all-triangles}
+use Rattle.shells.proofs.OneNumber.{one-number}
 use Rattle.closed.specs.Left.{Mesh, meshLeft, smoothed}
 use Rattle.closed.specs.Shell.{SidesStay, Unmarked, trianglesIn, Closed}
-use Rattle.closed.specs.Listed.{inShell, Right}
+use Rattle.closed.specs.Listed.{recordAt, inShell, cornersIn, Right}
 use Rattle.closed.proofs.Shell.{shell-closed, smoothed-shell-closed}
 
--- a granted call's numbering, and that the mesh passed
-record Given (m : Mesh) (o : Outcome) : Type 0 where
+-- a granted call's numbering, that its records have room, and that the mesh passed
+record Given (m : Mesh) (room : ℕ) (o : Outcome) : Type 0 where
   numbering : Numbering (trianglesOf (m .triangles)) (length (m .marks)) (o .numbers) (o .shells)
+  enough : o .shells ≤ room
   corners-fit : trianglesFit (m .triangles) (length (m .marks)) ≡ true
   marks-fit : allWithin 1 (m .marks) ≡ true
 
@@ -60,16 +63,17 @@ one-is-none false h = refl
 
 module _ (m : Mesh) (numbers work : List ℕ) (room : List Shell) (o : Outcome) (after : List Shell)
     (shells : Shells (m .points) (m .triangles) (m .marks) numbers work room o after) (none : o .number ≡ 0) where
-  given : Given m o
+  given : Given m (length room) o
   given = go (shells .lists)
     where
-      go : Lists (m .points) (m .triangles) (m .marks) (length room) numbers work o → Given m o
+      go : Lists (m .points) (m .triangles) (m .marks) (length room) numbers work o → Given m (length room) o
       go (refused n e) = absurd (n (sym (ap (λ x. x .number) e) ∙ none))
       go (crowded z f s N l e) = absurd (omega (arith, none, ap (λ x. x .number) e))
       go (granted z f s N l e) =
           let p = passed (m .points) (m .triangles) (m .marks) (length numbers) (length work) z in
           record {
             numbering = rw (ap (λ x. x .numbers) e, ap (λ x. x .shells) e) N;
+            enough = rw (ap (λ x. x .shells) e) l;
             corners-fit = p .mesh .corners-fit;
             marks-fit = p .mesh .marks-fit;
           }
@@ -80,12 +84,18 @@ module _ (m : Mesh) (numbers work : List ℕ) (room : List Shell) (o : Outcome) 
   abbrev record-of : ℕ → Shell
   record-of n = recordOf (m .points) (m .triangles) (m .marks) (o .numbers) n
 
-  -- record n stands in the room
-  pub record-at : (n : ℕ) (d : Shell) → n < o .shells → getD after n d ≡ record-of n
+  -- the lent list after the call: the records laid over its front, so record n stands at n
+  laid-over : after ≡ laid (listTo (o .shells) record-of) room
   unfolding recordsAfter
-  record-at n d l =
-      ap (λ xs. getD xs n d) (shells .records ∙ ap (λ b. cond b (laid (listTo (o .shells) record-of) room) room) (eq-eqb (o .number) 0 none))
-      ∙ laid-at (o .shells) n record-of room d l
+  laid-over = shells .records ∙ ap (λ b. cond b (laid (listTo (o .shells) record-of) room) room) (eq-eqb (o .number) 0 none)
+
+  record-at : (n : ℕ) → n < o .shells → recordAt after n ≡ record-of n
+  record-at n l = ap (λ xs. recordAt xs n) laid-over ∙ laid-at (o .shells) n record-of room _ l
+
+  held : o .shells ≤ length after
+  held =
+      let long = length-list (o .shells) record-of in
+      omega (arith, given .enough, long, ap length laid-over, length-laid (listTo (o .shells) record-of) room (omega (arith, long, given .enough)))
 
   -- the corners of a triangle stand under one shell
   under-one : (k : ℕ) → k < triangleCount (m .triangles) → let t = triangleAt (m .triangles) k in
@@ -97,19 +107,43 @@ module _ (m : Mesh) (numbers work : List ℕ) (room : List Shell) (o : Outcome) 
         N .same (t .two) (t .three) (c .second) (c .third) (led-second (m .triangles) k l),
       )
 
-  pub shells-right : Right m (o .numbers) (o .shells) record-of
+  -- so record n, which counts the triangles that name a point of shell n, counts those that have all three corners there
+  corners-agree : (n k : ℕ) → k < triangleCount (m .triangles) → let t = triangleAt (m .triangles) k in
+      namesUnder (o .numbers) n t ≡ cornersIn (o .numbers) n t
+  corners-agree n k l =
+      let u = under-one k l in
+      one-number (m .triangles) (o .numbers) (length (m .marks)) (o .shells) (given .corners-fit) N n k l
+      ∙ rw (← (u .1), ← (u .0)) (thrice (inShell (o .numbers) n (triangleAt (m .triangles) k .one)))
+    where
+      thrice : (b : Bool) → b ≡ (b && (b && b))
+      thrice true = refl
+      thrice false = refl
+
+  counts : (n : ℕ) → record-of n .triangles ≡ countTo (triangleCount (m .triangles)) (λ k. cornersIn (o .numbers) n (triangleAt (m .triangles) k))
+  unfolding recordFrom trianglesUnder
+  counts n =
+      length-keep (triangleCount (m .triangles)) (λ k. namesUnder (o .numbers) n (triangleAt (m .triangles) k))
+      ∙ count-cong (triangleCount (m .triangles)) _ _ (corners-agree n)
+
+  lowest-of : (n : ℕ) → n < o .shells → ByLowest (m .points) (m .triangles) (m .marks) (o .numbers) (o .shells) N n
+  lowest-of = by-lowest (m .points) (m .triangles) (m .marks) (o .numbers) (o .shells) N
+
+  pub shells-right : Right m (o .numbers) (o .shells) after
   shells-right =
       record {
         led = N .led;
         same = N .same;
         listed = N .small;
-        own = λ n l. let b = by-lowest (m .points) (m .triangles) (m .marks) (o .numbers) (o .shells) N n l in (b .small, b .number);
-        lowest = λ n p l lp is.
-            let b = by-lowest (m .points) (m .triangles) (m .marks) (o .numbers) (o .shells) N n l in
-            b .lowest p lp (is ∙ sym (b .number));
-        once = lows-rise (m .points) (m .triangles) (m .marks) (o .numbers) (o .shells) N;
+        held = held;
+        own = λ n l. rw (record-at n l) (let b = lowest-of n l in (b .small, b .number));
+        lowest = λ n p l lp is. rw (record-at n l) (let b = lowest-of n l in b .lowest p lp (is ∙ sym (b .number)));
+        once = λ i n l ln.
+            rw (record-at i (omega arith), record-at n ln) (lows-rise (m .points) (m .triangles) (m .marks) (o .numbers) (o .shells) N i n l ln);
         one-shell = under-one;
-        counted = all-triangles (m .points) (m .triangles) (m .marks) (o .numbers) (o .shells) N (given .corners-fit);
+        counted = λ n l. rw (record-at n l) (counts n);
+        all-counted =
+            sum-cong (o .shells) _ _ (λ n l. ap (λ s. s .triangles) (record-at n l))
+            ∙ all-triangles (m .points) (m .triangles) (m .marks) (o .numbers) (o .shells) N (given .corners-fit);
       }
 
   -- no side leads out of a shell
@@ -146,17 +180,17 @@ module _ (m : Mesh) (numbers work : List ℕ) (room : List Shell) (o : Outcome) 
 
 -- the shells of an extracted mesh, raw or smoothed, in a granted list
 module _ (nx ny nz grey : ℕ) (samples : List ℕ) (before : Rooms) (left : Extracted) (extracts : Extracts nx ny nz grey samples before left) (granted-mesh : left .number ≡ 0)
-    (numbers work : List ℕ) (room : List Shell) (o : Outcome) (after : List Shell) (none : o .number ≡ 0) (n : ℕ) (d : Shell) (small : n < o .shells) (touches : getD after n d .touches ≡ 0) where
+    (numbers work : List ℕ) (room : List Shell) (o : Outcome) (after : List Shell) (none : o .number ≡ 0) (n : ℕ) (small : n < o .shells) (touches : recordAt after n .touches ≡ 0) where
   pub listed-shell-closed : let m = meshLeft left in Shells (m .points) (m .triangles) (m .marks) numbers work room o after
       → Closed (trianglesIn (inShell (o .numbers) n) (trianglesOf (m .triangles)))
   listed-shell-closed shells =
       let m = meshLeft left in
       shell-closed nx ny nz grey samples before left extracts granted-mesh (inShell (o .numbers) n) (sides-stay m numbers work room o after shells none n)
-      (no-mark m numbers work room o after shells none n (sym (ap (λ s. s .touches) (record-at m numbers work room o after shells none n d small)) ∙ touches))
+      (no-mark m numbers work room o after shells none n (sym (ap (λ s. s .touches) (record-at m numbers work room o after shells none n small)) ∙ touches))
 
   pub smoothed-listed-shell-closed : (k w : ℕ) → let m = smoothed k w (meshLeft left) in Shells (m .points) (m .triangles) (m .marks) numbers work room o after
       → Closed (trianglesIn (inShell (o .numbers) n) (trianglesOf (m .triangles)))
   smoothed-listed-shell-closed k w shells =
       let m = smoothed k w (meshLeft left) in
       smoothed-shell-closed nx ny nz grey samples before left extracts granted-mesh (inShell (o .numbers) n) k w (sides-stay m numbers work room o after shells none n)
-      (no-mark m numbers work room o after shells none n (sym (ap (λ s. s .touches) (record-at m numbers work room o after shells none n d small)) ∙ touches))
+      (no-mark m numbers work room o after shells none n (sym (ap (λ s. s .touches) (record-at m numbers work room o after shells none n small)) ∙ touches))
