@@ -11,8 +11,8 @@ pub mod Balance
 pub mod Granted
 pub mod Promised
 pub mod Passes
-pub mod Smoothing
 pub mod Shell
 pub mod Listed
+pub mod Here
 pub mod Fourfold
 pub mod Slit

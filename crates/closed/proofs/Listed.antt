@@ -1,4 +1,4 @@
--- A granted shell list is right, and a shell in it that touches no outer face is closed, if the mesh was extracted here, smoothed here or not.
+-- A granted shell list is right: no side leads out of a shell in it, and one whose record says that it touches no outer face has no marked point.
 use mathlib.Core.Path.{_≡_, refl, ap, sym, _∙_}
 use mathlib.Core.List.{List, [], _∷_, _++_}
 use mathlib.Core.Bool.{Bool, true, false, cond, _&&_, _||_, true≢false}
@@ -20,8 +20,6 @@ use Rattle.laws.proofs.Rooms.{length-laid}
 use Rattle.laws.proofs.Values.{length-list, laid-at}
 use Rattle.mesh.specs.Mesh.{triangleCount, triangleAt, trianglesOf}
 use Rattle.mesh.specs.Check.{trianglesFit, allWithin}
-use Rattle.extract.specs.Outcome.{Rooms, Outcome as Extracted}
-use Rattle.extract.specs.Promise.{Extracts}
 use Rattle.shells.specs.declared.Shell.{Shell}
 use Rattle.shells.specs.Numbering.{numberOf, Numbering}
 use Rattle.shells.specs.Record.{anyOf, pointsUnder, namesUnder, trianglesUnder, recordFrom, recordOf}
@@ -33,10 +31,9 @@ use Rattle.shells.proofs.Leading.{led-first, led-second}
 use Rattle.shells.proofs.Lows.{ByLowest, by-lowest, lows-rise}
 use Rattle.shells.proofs.Totals.{all-triangles}
 use Rattle.shells.proofs.OneNumber.{one-number}
-use Rattle.closed.specs.Left.{Mesh, meshLeft, smoothed}
-use Rattle.closed.specs.Shell.{SidesStay, Unmarked, trianglesIn, Closed}
+use Rattle.closed.specs.Left.{Mesh}
+use Rattle.closed.specs.Shell.{SidesStay, Unmarked}
 use Rattle.closed.specs.Listed.{recordAt, inShell, cornersIn, Right}
-use Rattle.closed.proofs.Shell.{shell-closed, smoothed-shell-closed}
 
 -- a granted call's numbering, that its records have room, and that the mesh passed
 record Given (m : Mesh) (room : ℕ) (o : Outcome) : Type 0 where
@@ -147,7 +144,7 @@ module _ (m : Mesh) (numbers work : List ℕ) (room : List Shell) (o : Outcome) 
       }
 
   -- no side leads out of a shell
-  sides-stay : (n : ℕ) → SidesStay (inShell (o .numbers) n) (trianglesOf (m .triangles))
+  pub sides-stay : (n : ℕ) → SidesStay (inShell (o .numbers) n) (trianglesOf (m .triangles))
   unfolding trianglesOf sides
   sides-stay n =
       of-join (λ ts. SidesStay (inShell (o .numbers) n) ts) tt both-parts (triangleCount (m .triangles)) (λ i. triangleAt (m .triangles) i ∷ [])
@@ -160,13 +157,13 @@ module _ (m : Mesh) (numbers work : List ℕ) (room : List Shell) (o : Outcome) 
           rw (sides-append xs ys) (all-append (λ s. inShell (o .numbers) n (s .from) ≡ inShell (o .numbers) n (s .to)) (sides xs) (sides ys) a b)
 
   -- a shell that touches no outer face has no marked point
-  no-mark : (n : ℕ) → record-of n .touches ≡ 0 → Unmarked (inShell (o .numbers) n) m
+  pub no-mark : (n : ℕ) → n < o .shells → recordAt after n .touches ≡ 0 → Unmarked (inShell (o .numbers) n) m
   unfolding recordFrom pointsUnder
-  no-mark n touches p here = go (decLt p (length (m .marks)))
+  no-mark n small touches p here = go (decLt p (length (m .marks)))
     where
       go : Dec (p < length (m .marks)) → getD (m .marks) p 0 ≡ 0
       go (yes l) =
-          let f = none-passes (λ q. eqb (getD (m .marks) q 0) 1) (keepTo (length (m .marks)) (inShell (o .numbers) n)) (countTo p (inShell (o .numbers) n)) 0 (one-is-none _ touches)
+          let f = none-passes (λ q. eqb (getD (m .marks) q 0) 1) (keepTo (length (m .marks)) (inShell (o .numbers) n)) (countTo p (inShell (o .numbers) n)) 0 (one-is-none _ (sym (ap (λ s. s .touches) (record-at n small)) ∙ touches))
           (omega (arith, length-keep (length (m .marks)) (inShell (o .numbers) n), rank-lt (length (m .marks)) p (inShell (o .numbers) n) l here)) in
           let e = rw (at-rank (length (m .marks)) p (inShell (o .numbers) n) l here) at f in
           let d = eqb-false (getD (m .marks) p 0) 1 e in
@@ -177,20 +174,3 @@ module _ (m : Mesh) (numbers work : List ℕ) (room : List Shell) (o : Outcome) 
           not-one (suc zero) l d = absurd (d refl)
           not-one (suc (suc k)) l d = absurd (omega arith)
       go (no l) = List·getD-eq-default (m .marks) 0 (omega arith)
-
--- the shells of an extracted mesh, raw or smoothed, in a granted list
-module _ (nx ny nz grey : ℕ) (samples : List ℕ) (before : Rooms) (left : Extracted) (extracts : Extracts nx ny nz grey samples before left) (granted-mesh : left .number ≡ 0)
-    (numbers work : List ℕ) (room : List Shell) (o : Outcome) (after : List Shell) (none : o .number ≡ 0) (n : ℕ) (small : n < o .shells) (touches : recordAt after n .touches ≡ 0) where
-  pub listed-shell-closed : let m = meshLeft left in Shells (m .points) (m .triangles) (m .marks) numbers work room o after
-      → Closed (trianglesIn (inShell (o .numbers) n) (trianglesOf (m .triangles)))
-  listed-shell-closed shells =
-      let m = meshLeft left in
-      shell-closed nx ny nz grey samples before left extracts granted-mesh (inShell (o .numbers) n) (sides-stay m numbers work room o after shells none n)
-      (no-mark m numbers work room o after shells none n (sym (ap (λ s. s .touches) (record-at m numbers work room o after shells none n small)) ∙ touches))
-
-  pub smoothed-listed-shell-closed : (k w : ℕ) → let m = smoothed k w (meshLeft left) in Shells (m .points) (m .triangles) (m .marks) numbers work room o after
-      → Closed (trianglesIn (inShell (o .numbers) n) (trianglesOf (m .triangles)))
-  smoothed-listed-shell-closed k w shells =
-      let m = smoothed k w (meshLeft left) in
-      smoothed-shell-closed nx ny nz grey samples before left extracts granted-mesh (inShell (o .numbers) n) k w (sides-stay m numbers work room o after shells none n)
-      (no-mark m numbers work room o after shells none n (sym (ap (λ s. s .touches) (record-at m numbers work room o after shells none n small)) ∙ touches))
