@@ -1,14 +1,14 @@
 -- A granted shell list is right: no side leads out of a shell in it, and one whose record says that it touches no outer face has no marked point.
 use mathlib.Core.Path.{_≡_, refl, ap, sym, _∙_}
 use mathlib.Core.List.{List, [], _∷_, _++_}
-use mathlib.Core.Bool.{Bool, true, false, cond, _&&_, _||_, true≢false}
+use mathlib.Core.Bool.{Bool, true, false, cond, _||_, true≢false, and-self, and-self-left}
 use Prim.Native.Nat.{ℕ, zero, suc, _<_, _≤_}
 use native.Mathlib.Decide.{decLt}
 use native.Mathlib.Omega.{arith}
 use lib.Dec.{eqb}
 use lib.ListN.{length, getD, List·getD-eq-default}
 use borrow.Author.Tests.{eq-eqb, eqb-false}
-use Rattle.laws.specs.Range.{keepTo, countTo, one-if}
+use Rattle.laws.specs.Range.{keepTo, countTo}
 use Rattle.laws.specs.Room.{laid}
 use Rattle.laws.specs.Mesh.{Triangle, sides}
 use Rattle.laws.specs.Values.{listTo}
@@ -34,6 +34,7 @@ use Rattle.shells.proofs.OneNumber.{one-number}
 use Rattle.closed.specs.Left.{Mesh}
 use Rattle.closed.specs.Shell.{SidesStay, Unmarked}
 use Rattle.closed.specs.Listed.{recordAt, inShell, cornersIn, Right}
+use Rattle.closed.proofs.Numbered.{is-none}
 
 -- a granted call's numbering, that its records have room, and that the mesh passed
 record Given (m : Mesh) (room : ℕ) (o : Outcome) : Type 0 where
@@ -53,10 +54,6 @@ none-passes t (x ∷ xs) i d h l = go (t x) refl i l h (λ j e k. none-passes t 
     go true e i l h later = absurd (true≢false h)
     go false e zero l h later = e
     go false e (suc i) l h later = later i h (omega arith)
-
-one-is-none : (b : Bool) → one-if b ≡ 0 → b ≡ false
-one-is-none true h = absurd (omega arith)
-one-is-none false h = refl
 
 module _ (m : Mesh) (numbers work : List ℕ) (room : List Shell) (o : Outcome) (after : List Shell)
     (shells : Shells (m .points) (m .triangles) (m .marks) numbers work room o after) (none : o .number ≡ 0) where
@@ -110,11 +107,7 @@ module _ (m : Mesh) (numbers work : List ℕ) (room : List Shell) (o : Outcome) 
   corners-agree n k l =
       let u = under-one k l in
       one-number (m .triangles) (o .numbers) (length (m .marks)) (o .shells) (given .corners-fit) N n k l
-      ∙ rw (← (u .1), ← (u .0)) (thrice (inShell (o .numbers) n (triangleAt (m .triangles) k .one)))
-    where
-      thrice : (b : Bool) → b ≡ (b && (b && b))
-      thrice true = refl
-      thrice false = refl
+      ∙ rw (← (u .1), ← (u .0)) (let b = inShell (o .numbers) n (triangleAt (m .triangles) k .one) in sym (and-self-left b b ∙ and-self b))
 
   counts : (n : ℕ) → record-of n .triangles ≡ countTo (triangleCount (m .triangles)) (λ k. cornersIn (o .numbers) n (triangleAt (m .triangles) k))
   unfolding recordFrom trianglesUnder
@@ -163,7 +156,7 @@ module _ (m : Mesh) (numbers work : List ℕ) (room : List Shell) (o : Outcome) 
     where
       go : Dec (p < length (m .marks)) → getD (m .marks) p 0 ≡ 0
       go (yes l) =
-          let f = none-passes (λ q. eqb (getD (m .marks) q 0) 1) (keepTo (length (m .marks)) (inShell (o .numbers) n)) (countTo p (inShell (o .numbers) n)) 0 (one-is-none _ (sym (ap (λ s. s .touches) (record-at n small)) ∙ touches))
+          let f = none-passes (λ q. eqb (getD (m .marks) q 0) 1) (keepTo (length (m .marks)) (inShell (o .numbers) n)) (countTo p (inShell (o .numbers) n)) 0 (is-none _ (sym (ap (λ s. s .touches) (record-at n small)) ∙ touches))
           (omega (arith, length-keep (length (m .marks)) (inShell (o .numbers) n), rank-lt (length (m .marks)) p (inShell (o .numbers) n) l here)) in
           let e = rw (at-rank (length (m .marks)) p (inShell (o .numbers) n) l here) at f in
           let d = eqb-false (getD (m .marks) p 0) 1 e in

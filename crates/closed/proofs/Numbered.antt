@@ -23,6 +23,11 @@ pub record OnRim (k : Kind) (n : Size) (above : ℕ → Bool) (axis : ℕ) (last
   pub cut : crossed k n above e ≡ true
   pub flat : onFace k n axis last e ≡ true
 
+-- a test that counts nothing fails
+pub is-none : (b : Bool) → one-if b ≡ 0 → b ≡ false
+is-none true h = absurd (omega arith)
+is-none false h = refl
+
 -- where no outer face passes a test, each fails it
 neither : (a b : Bool) → (a || b) ≡ false → (a ≡ false) × (b ≡ false)
 neither true b h = absurd (true≢false h)
@@ -61,10 +66,6 @@ module _ (k : Kind) (n : Size) (above : ℕ → Bool) where
   unfolding onOneFace
   apart-by-faces p q h axis last l a b =
       false≢true (sym (none-of (λ axis last. onFace k n axis last (edgeOf p) && onFace k n axis last (edgeOf q)) h axis last l) ∙ rw (a, b))
-
-  is-none : (b : Bool) → one-if b ≡ 0 → b ≡ false
-  is-none true h = absurd (omega arith)
-  is-none false h = refl
 
   apart-by-mark : (p q : ℕ) → mark k n (edgeOf p) ≡ 0 → Apart p q
   unfolding mark

@@ -26,13 +26,6 @@ use Rattle.closed.proofs.Numbered.{OnRim}
 use Rattle.closed.proofs.Cells.{across, made}
 use Rattle.closed.proofs.Cubes.{corner, cubes-next}
 
--- what both ends of the segments of each ring have, those of all rings have
-pub rings-ends : (P : ℕ → Type 0) (above : ℕ → Bool) (edge : ℕ → ℕ → ℕ) (rs : List Ring)
-    → All (λ r. All (Ends P) (faceSegments above edge r)) rs → All (Ends P) (segmentsOf above edge rs)
-unfolding segmentsOf flatMap
-rings-ends P above edge [] a = tt
-rings-ends P above edge (r ∷ rs) a = all-append (Ends P) (faceSegments above edge r) (segmentsOf above edge rs) (a .0) (rings-ends P above edge rs (a .1))
-
 -- the edge e goes between corners c and d
 between : ℕ → ℕ → ℕ → Bool
 between e c d =
@@ -149,8 +142,9 @@ module _ (n : Size) (above : ℕ → Bool) (hx : 2 ≤ n .nx) (hy : 2 ≤ n .ny)
   ring-on-rim : (axis : ℕ) (last : Bool) (x y z : ℕ) (ring : Ring)
       → All (Ends (On axis last)) (faceSegments (corner n above x y z) (λ c d. gridEdge n x y z (edgeBetween c d)) ring)
       → All (Ends (On axis last)) (segs (ring ∷ []) x y z)
+  unfolding segmentsOf flatMap
   ring-on-rim axis last x y z ring a =
-      rings-ends (On axis last) (corner n above x y z) (λ c d. gridEdge n x y z (edgeBetween c d)) (ring ∷ []) (a, tt)
+      all-append (Ends (On axis last)) (faceSegments (corner n above x y z) (λ c d. gridEdge n x y z (edgeBetween c d)) ring) [] a tt
 
   -- the high side of a last cube is the low side of the cube that would come next
   carried : (axis : ℕ) (last : Bool) (ss ts : List Arrow) → ss ≡ ts → All (Ends (On axis last)) ss → All (Ends (On axis last)) ts
