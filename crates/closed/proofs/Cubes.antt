@@ -14,8 +14,8 @@ use Rattle.cube.proofs.Corners.{case-small, segments-of-case}
 use Rattle.cube.proofs.Turned.{back, face-turned}
 use Rattle.grid.specs.Grid.{Size}
 use Rattle.grid.specs.Mesh.{cornerSite, gridEdge}
-use Rattle.closed.specs.Pattern.{andBack, fitted, TurnsRound, cubes}
-use Rattle.closed.proofs.Pattern.{PatternLaw, sameRing}
+use Rattle.closed.specs.Pattern.{TurnsRound, cubes}
+use Rattle.closed.proofs.Pattern.{sameRing, andBack, fitted, PatternLaw}
 use Rattle.closed.proofs.Cells.{Neighbours}
 
 edge-either-way : (i j : ℕ) → edgeBetween i j ≡ edgeBetween j i

@@ -15,7 +15,7 @@ use Rattle.laws.proofs.Sums.{sum-append, sum-flat}
 use Rattle.laws.proofs.Rearranged.{sum-rearranged}
 use Rattle.cube.specs.Face.{faceSegments, segmentsOf}
 use Rattle.cube.proofs.Turned.{back}
-use Rattle.closed.specs.Pattern.{Ring, moved, Pattern, andBack, fitted, TurnsRound}
+use Rattle.closed.specs.Pattern.{Ring, moved, Pattern, TurnsRound}
 
 unfoldable pub sameRing : Ring → Ring → Bool
 sameRing [] [] = true
@@ -31,6 +31,16 @@ same-ring (c ∷ cs) [] h = absurd (false≢true h)
 same-ring (c ∷ cs) (d ∷ ds) h =
     let p = both (eqb c d) (sameRing cs ds) h in
     rw (eqb-true c d (p .0), same-ring cs ds (p .1))
+
+-- rings, and others seen from the other side
+unfoldable pub andBack : List Ring → List Ring → List Ring
+andBack rs ss = rs ++ map back ss
+
+-- the faces as they have to be: the low sides; the high sides, which are the next cells' low sides seen from this cell; the inner faces from both sides
+unfoldable pub fitted : Pattern → List Ring
+fitted p =
+    andBack (p .low-x) (map (moved 1) (p .low-x))
+    ++ (andBack (p .low-y) (map (moved 2) (p .low-y)) ++ (andBack (p .low-z) (map (moved 4) (p .low-z)) ++ andBack (p .inner) (p .inner)))
 
 -- what a pattern owes
 pub record PatternLaw (p : Pattern) : Type 0 where
