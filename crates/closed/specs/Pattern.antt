@@ -14,8 +14,8 @@ use Rattle.cube.proofs.Turned.{back}
 abbrev pub Ring : Type 0
 Ring = List ℕ
 
-abbrev pub moved : ℕ → Ring → Ring
-moved d ring = map (λ c. c + d) ring
+abbrev pub further : ℕ → Ring → Ring
+further d ring = map (λ c. c + d) ring
 
 -- `edge` numbers the edge between two corners; `faces` are those of all pieces of a cell; `low-x` are those at its side towards the smaller x, and so
 -- on; `inner` has one side of each face between two pieces; `triangles` by which corners are above
