@@ -13,8 +13,7 @@ use Rattle.laws.specs.Mesh.{sides, total}
 use Rattle.laws.proofs.Tests.{both}
 use Rattle.laws.proofs.Sums.{sum-append, sum-flat}
 use Rattle.laws.proofs.Rearranged.{sum-rearranged}
-use Rattle.cube.specs.Face.{faceSegments, segmentsOf}
-use Rattle.cube.proofs.Turned.{back}
+use Rattle.cube.specs.Face.{faceSegments, segmentsOf, back}
 use Rattle.closed.specs.Pattern.{Ring, further, Pattern, TurnsRound}
 
 unfoldable pub sameRing : Ring → Ring → Bool

@@ -6,9 +6,8 @@ use mathlib.Core.Bool.{Bool}
 use Prim.Native.Nat.{ℕ, _+_}
 use Rattle.laws.specs.Mesh.{Triangle, total}
 use Rattle.cube.specs.Cube.{caseOf, edgeBetween}
-use Rattle.cube.specs.Face.{faceSegments}
+use Rattle.cube.specs.Face.{faceSegments, back}
 use Rattle.cube.specs.Answer.{cubeFaces, triangles}
-use Rattle.cube.proofs.Turned.{back}
 
 -- a ring of corners, corner c being x + 2y + 4z, and the ring d corners further on
 abbrev pub Ring : Type 0
