@@ -39,7 +39,8 @@ pub data Here (n : Size) : Mesh → List ℕ → Type 0 where
       → Smooths (m .points) (m .triangles) (m .marks) k w second work 0 after left
       → Here n (record { points = after; triangles = m .triangles; marks = m .marks }) edges
 
--- k rounds of weight w give the points other places; triangles and marks are the mesh's own
+-- the mesh that the program for small grids writes, said without a call: k rounds of weight w give the points other places; triangles and marks are the
+-- mesh's own
 unfoldable pub smoothed : ℕ → ℕ → Mesh → Mesh
 smoothed k w m =
     record {
