@@ -11,7 +11,7 @@ use Rattle.laws.proofs.Sums.{sum-map, sum-same}
 use Rattle.laws.proofs.Sides.{total-rename}
 use Rattle.cube.specs.Face.{step, cuts, wayRound, faceSegments, segmentsOf}
 use Rattle.cube.proofs.Way.{byNamed, arrowNamed, cuts-renamed}
-use Rattle.closed.specs.Pattern.{Ring, moved, Pattern}
+use Rattle.closed.specs.Pattern.{Ring, further, Pattern}
 use Rattle.closed.proofs.Law.{CellLaw}
 use Rattle.closed.proofs.Pattern.{PatternLaw, ring-by-ring, faces-parted}
 
@@ -58,9 +58,9 @@ module _ (p : Pattern) (corner : ℕ → ℕ → ℕ → ℕ → Bool) (name : �
 
   -- a face has its segments by its corners' samples and its edges' names alone, so two cells that share it agree on them
   pub record Neighbours : Type 0 where
-    pub next-x : (x y z : ℕ) → across (map (moved 1) (p .low-x)) x y z ≡ across (p .low-x) (x + 1) y z
-    pub next-y : (x y z : ℕ) → across (map (moved 2) (p .low-y)) x y z ≡ across (p .low-y) x (y + 1) z
-    pub next-z : (x y z : ℕ) → across (map (moved 4) (p .low-z)) x y z ≡ across (p .low-z) x y (z + 1)
+    pub next-x : (x y z : ℕ) → across (map (further 1) (p .low-x)) x y z ≡ across (p .low-x) (x + 1) y z
+    pub next-y : (x y z : ℕ) → across (map (further 2) (p .low-y)) x y z ≡ across (p .low-y) x (y + 1) z
+    pub next-z : (x y z : ℕ) → across (map (further 4) (p .low-z)) x y z ≡ across (p .low-z) x y (z + 1)
 
   module _ (law : PatternLaw p) (next : Neighbours) where
     through : (x y z : ℕ) (w : ℕ → ℕ → ℕ)
@@ -80,9 +80,9 @@ module _ (p : Pattern) (corner : ℕ → ℕ → ℕ → ℕ → Bool) (name : �
           there (p .low-y),
           there (p .low-z),
           there (p .inner),
-          back (map (moved 1) (p .low-x)),
-          back (map (moved 2) (p .low-y)),
-          back (map (moved 4) (p .low-z)),
+          back (map (further 1) (p .low-x)),
+          back (map (further 2) (p .low-y)),
+          back (map (further 4) (p .low-z)),
           back (p .inner),
           ap (total (λ i j. w j i)) (next .next-x x y z),
           ap (total (λ i j. w j i)) (next .next-y x y z),

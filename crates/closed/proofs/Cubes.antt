@@ -7,15 +7,15 @@ use native.Mathlib.Nat.{add-zero, min-comm, max-comm}
 use Rattle.laws.specs.Order.{rearranged, isIn, without}
 use Rattle.laws.specs.Mesh.{sides, total}
 use Rattle.cube.specs.Cube.{caseOf, edgeBetween}
-use Rattle.cube.specs.Face.{wayRound, faceSegments, segmentsOf}
+use Rattle.cube.specs.Face.{wayRound, faceSegments, segmentsOf, back}
 use Rattle.cube.specs.Answer.{cubeFaces, triangles}
 use Rattle.cube.proofs.Cases.{case-balance}
 use Rattle.cube.proofs.Corners.{case-small, segments-of-case}
-use Rattle.cube.proofs.Turned.{back, face-turned}
+use Rattle.cube.proofs.Turned.{face-turned}
 use Rattle.grid.specs.Grid.{Size}
 use Rattle.grid.specs.Mesh.{cornerSite, gridEdge}
-use Rattle.closed.specs.Pattern.{andBack, fitted, TurnsRound, cubes}
-use Rattle.closed.proofs.Pattern.{PatternLaw, sameRing}
+use Rattle.closed.specs.Pattern.{TurnsRound, cubes}
+use Rattle.closed.proofs.Pattern.{sameRing, andBack, fitted, PatternLaw}
 use Rattle.closed.proofs.Cells.{Neighbours}
 
 edge-either-way : (i j : ℕ) → edgeBetween i j ≡ edgeBetween j i

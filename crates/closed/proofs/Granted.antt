@@ -14,6 +14,7 @@ use Rattle.laws.specs.Mesh.{Triangle, triangle, cornersOf, flat}
 use Rattle.laws.proofs.Ranges.{length-flat}
 use Rattle.laws.proofs.Rooms.{laid-read}
 use Rattle.laws.proofs.Rows.{length-rows, entry-at}
+use Rattle.laws.proofs.Sides.{length-corners}
 use Rattle.grid.specs.Limits.{mostPoints, mostTriangles}
 use Rattle.grid.specs.Grid.{Size, axes, sampleCount, edgeCount, mark}
 use Rattle.grid.specs.Point.{place}
@@ -26,10 +27,6 @@ use Rattle.mesh.specs.Mesh.{triangleCount, triangleAt, trianglesOf}
 use Rattle.closed.specs.Left.{meshLeft, edgesLeft}
 
 -- triangles written flat and read again
-pub length-flat-triangles : (ts : List Triangle) → length (flat ts) ≡ 3 * length ts
-unfolding flat
-length-flat-triangles ts = length-flat 3 cornersOf (λ t. refl) ts
-
 past-one : (t : Triangle) (ts : List Triangle) (k at : ℕ) → at ≡ 3 + k → getD (flat (t ∷ ts)) at 0 ≡ getD (flat ts) k 0
 unfolding flat flatMap
 past-one t ts k at e = rw e (getD-append-add (cornersOf t) (flat ts) k 0)
@@ -52,7 +49,7 @@ triangles-of-flat ts = ext-getD (triangle 0 0 0) (joinTo (triangleCount (flat ts
     one i = triangleAt (flat ts) i ∷ []
 
     count : triangleCount (flat ts) ≡ length ts
-    count = omega (arith, length-flat-triangles ts)
+    count = omega (arith, length-corners ts)
 
     many : length (joinTo (triangleCount (flat ts)) one) ≡ triangleCount (flat ts)
     many = length-rows 1 one (λ i. refl) (triangleCount (flat ts)) ∙ mul-one (triangleCount (flat ts))
@@ -115,7 +112,7 @@ module _ (nx ny nz grey : ℕ) (samples : List ℕ) (before : Rooms) where
         places-are =
             laid-read (flatMap (place axes n grey samples) points) (before .points) (3 * length points) (length-flat 3 (place axes n grey samples) place-three points);
         marks-are = laid-read (map (mark axes n) points) (before .marks) (length points) (length-map points (mark axes n));
-        triangles-are = laid-read (flat triangles) (before .triangles) (3 * length triangles) (length-flat-triangles triangles);
+        triangles-are = laid-read (flat triangles) (before .triangles) (3 * length triangles) (length-corners triangles);
       }
 
   pub left-granted : (after : Outcome) → Extracts nx ny nz grey samples before after → after .number ≡ 0 → Granted after

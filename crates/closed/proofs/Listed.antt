@@ -1,45 +1,46 @@
--- A granted shell list is right, and a shell in it that touches no outer face is closed, if the mesh was extracted here, smoothed here or not.
+-- A granted shell list is right: no side leads out of a shell in it, and one whose record says that it touches no outer face has no marked point.
 use mathlib.Core.Path.{_≡_, refl, ap, sym, _∙_}
 use mathlib.Core.List.{List, [], _∷_, _++_}
-use mathlib.Core.Bool.{Bool, true, false, cond, _||_, true≢false}
+use mathlib.Core.Bool.{Bool, true, false, cond, _||_, true≢false, and-self, and-self-left}
 use Prim.Native.Nat.{ℕ, zero, suc, _<_, _≤_}
 use native.Mathlib.Decide.{decLt}
 use native.Mathlib.Omega.{arith}
 use lib.Dec.{eqb}
 use lib.ListN.{length, getD, List·getD-eq-default}
 use borrow.Author.Tests.{eq-eqb, eqb-false}
-use Rattle.laws.specs.Range.{keepTo, countTo, one-if}
+use Rattle.laws.specs.Range.{keepTo, countTo}
 use Rattle.laws.specs.Room.{laid}
 use Rattle.laws.specs.Mesh.{Triangle, sides}
 use Rattle.laws.specs.Values.{listTo}
-use Rattle.laws.proofs.Ranges.{of-join}
+use Rattle.laws.proofs.Ranges.{of-join, sum-cong, count-cong}
+use Rattle.laws.proofs.Tests.{is-none}
 use Rattle.laws.proofs.Keep.{rank-lt, at-rank, length-keep}
 use Rattle.laws.proofs.Sums.{all-append}
 use Rattle.laws.proofs.Sides.{sides-append}
-use Rattle.laws.proofs.Values.{laid-at}
+use Rattle.laws.proofs.Rooms.{length-laid}
+use Rattle.laws.proofs.Values.{length-list, laid-at}
 use Rattle.mesh.specs.Mesh.{triangleCount, triangleAt, trianglesOf}
 use Rattle.mesh.specs.Check.{trianglesFit, allWithin}
-use Rattle.extract.specs.Extraction.{Rooms, Outcome as Extracted}
-use Rattle.extract.specs.Promise.{Extracts}
 use Rattle.records.specs.declared.Shell.{Shell}
 use Rattle.shellnumbers.specs.Numbering.{numberOf, Numbering}
-use Rattle.records.specs.Record.{anyOf, pointsUnder, recordFrom, recordOf}
+use Rattle.records.specs.Record.{anyOf, pointsUnder, namesUnder, trianglesUnder, recordFrom, recordOf}
 use Rattle.shellnumbers.specs.Lists.{Outcome, Lists, refused, crowded, granted}
 use Rattle.shells.specs.Promise.{recordsAfter, Shells}
 use Rattle.mesh.proofs.Places.{within-any}
 use Rattle.mesh.proofs.Passed.{corners}
 use Rattle.shellnumbers.proofs.Sound.{passed}
 use Rattle.sets.proofs.Leading.{led-first, led-second}
-use Rattle.records.proofs.Lows.{by-lowest, lows-rise}
+use Rattle.records.proofs.Lows.{ByLowest, by-lowest, lows-rise}
 use Rattle.records.proofs.Totals.{all-triangles}
-use Rattle.closed.specs.Left.{Mesh, meshLeft, smoothed}
-use Rattle.closed.specs.Shell.{SidesStay, Unmarked, trianglesIn, Closed}
-use Rattle.closed.specs.Listed.{inShell, Right}
-use Rattle.closed.proofs.Shell.{shell-closed, smoothed-shell-closed}
+use Rattle.records.proofs.OneNumber.{one-number}
+use Rattle.closed.specs.Left.{Mesh}
+use Rattle.closed.specs.Shell.{SidesStay, Unmarked}
+use Rattle.closed.specs.Listed.{recordAt, inShell, cornersIn, Right}
 
--- a granted call's numbering, and that the mesh passed
-record Given (m : Mesh) (o : Outcome) : Type 0 where
+-- a granted call's numbering, that its records have room, and that the mesh passed
+record Given (m : Mesh) (room : ℕ) (o : Outcome) : Type 0 where
   numbering : Numbering (trianglesOf (m .triangles)) (length (m .marks)) (o .numbers) (o .shells)
+  enough : o .shells ≤ room
   corners-fit : trianglesFit (m .triangles) (length (m .marks)) ≡ true
   marks-fit : allWithin 1 (m .marks) ≡ true
 
@@ -55,22 +56,19 @@ none-passes t (x ∷ xs) i d h l = go (t x) refl i l h (λ j e k. none-passes t 
     go false e zero l h later = e
     go false e (suc i) l h later = later i h (omega arith)
 
-one-is-none : (b : Bool) → one-if b ≡ 0 → b ≡ false
-one-is-none true h = absurd (omega arith)
-one-is-none false h = refl
-
 module _ (m : Mesh) (numbers work : List ℕ) (room : List Shell) (o : Outcome) (after : List Shell)
     (shells : Shells (m .points) (m .triangles) (m .marks) numbers work room o after) (none : o .number ≡ 0) where
-  given : Given m o
+  given : Given m (length room) o
   given = go (shells .lists)
     where
-      go : Lists (m .points) (m .triangles) (m .marks) (length room) numbers work o → Given m o
+      go : Lists (m .points) (m .triangles) (m .marks) (length room) numbers work o → Given m (length room) o
       go (refused n e) = absurd (n (sym (ap (λ x. x .number) e) ∙ none))
       go (crowded z f s N l e) = absurd (omega (arith, none, ap (λ x. x .number) e))
       go (granted z f s N l e) =
           let p = passed (m .points) (m .triangles) (m .marks) (length numbers) (length work) z in
           record {
             numbering = rw (ap (λ x. x .numbers) e, ap (λ x. x .shells) e) N;
+            enough = rw (ap (λ x. x .shells) e) l;
             corners-fit = p .mesh .corners-fit;
             marks-fit = p .mesh .marks-fit;
           }
@@ -81,12 +79,18 @@ module _ (m : Mesh) (numbers work : List ℕ) (room : List Shell) (o : Outcome) 
   abbrev record-of : ℕ → Shell
   record-of n = recordOf (m .points) (m .triangles) (m .marks) (o .numbers) n
 
-  -- record n stands in the room
-  pub record-at : (n : ℕ) (d : Shell) → n < o .shells → getD after n d ≡ record-of n
+  -- the lent list after the call: the records laid over its front, so record n stands at n
+  laid-over : after ≡ laid (listTo (o .shells) record-of) room
   unfolding recordsAfter
-  record-at n d l =
-      ap (λ xs. getD xs n d) (shells .records ∙ ap (λ b. cond b (laid (listTo (o .shells) record-of) room) room) (eq-eqb (o .number) 0 none))
-      ∙ laid-at (o .shells) n record-of room d l
+  laid-over = shells .records ∙ ap (λ b. cond b (laid (listTo (o .shells) record-of) room) room) (eq-eqb (o .number) 0 none)
+
+  record-at : (n : ℕ) → n < o .shells → recordAt after n ≡ record-of n
+  record-at n l = ap (λ xs. recordAt xs n) laid-over ∙ laid-at (o .shells) n record-of room _ l
+
+  held : o .shells ≤ length after
+  held =
+      let long = length-list (o .shells) record-of in
+      omega (arith, given .enough, long, ap length laid-over, length-laid (listTo (o .shells) record-of) room (omega (arith, long, given .enough)))
 
   -- the corners of a triangle stand under one shell
   under-one : (k : ℕ) → k < triangleCount (m .triangles) → let t = triangleAt (m .triangles) k in
@@ -98,23 +102,43 @@ module _ (m : Mesh) (numbers work : List ℕ) (room : List Shell) (o : Outcome) 
         N .same (t .two) (t .three) (c .second) (c .third) (led-second (m .triangles) k l),
       )
 
-  pub shells-right : Right m (o .numbers) (o .shells) record-of
+  -- so record n, which counts the triangles that name a point of shell n, counts those that have all three corners there
+  corners-agree : (n k : ℕ) → k < triangleCount (m .triangles) → let t = triangleAt (m .triangles) k in
+      namesUnder (o .numbers) n t ≡ cornersIn (o .numbers) n t
+  corners-agree n k l =
+      let u = under-one k l in
+      one-number (m .triangles) (o .numbers) (length (m .marks)) (o .shells) (given .corners-fit) N n k l
+      ∙ rw (← (u .1), ← (u .0)) (let b = inShell (o .numbers) n (triangleAt (m .triangles) k .one) in sym (and-self-left b b ∙ and-self b))
+
+  counts : (n : ℕ) → record-of n .triangles ≡ countTo (triangleCount (m .triangles)) (λ k. cornersIn (o .numbers) n (triangleAt (m .triangles) k))
+  unfolding recordFrom trianglesUnder
+  counts n =
+      length-keep (triangleCount (m .triangles)) (λ k. namesUnder (o .numbers) n (triangleAt (m .triangles) k))
+      ∙ count-cong (triangleCount (m .triangles)) _ _ (corners-agree n)
+
+  lowest-of : (n : ℕ) → n < o .shells → ByLowest (m .points) (m .triangles) (m .marks) (o .numbers) (o .shells) N n
+  lowest-of = by-lowest (m .points) (m .triangles) (m .marks) (o .numbers) (o .shells) N
+
+  pub shells-right : Right m (o .numbers) (o .shells) after
   shells-right =
       record {
         led = N .led;
         same = N .same;
         listed = N .small;
-        own = λ n l. let b = by-lowest (m .points) (m .triangles) (m .marks) (o .numbers) (o .shells) N n l in (b .small, b .number);
-        lowest = λ n p l lp is.
-            let b = by-lowest (m .points) (m .triangles) (m .marks) (o .numbers) (o .shells) N n l in
-            b .lowest p lp (is ∙ sym (b .number));
-        once = lows-rise (m .points) (m .triangles) (m .marks) (o .numbers) (o .shells) N;
+        held = held;
+        own = λ n l. rw (record-at n l) (let b = lowest-of n l in (b .small, b .number));
+        lowest = λ n p l lp is. rw (record-at n l) (let b = lowest-of n l in b .lowest p lp (is ∙ sym (b .number)));
+        once = λ i n l ln.
+            rw (record-at i (omega arith), record-at n ln) (lows-rise (m .points) (m .triangles) (m .marks) (o .numbers) (o .shells) N i n l ln);
         one-shell = under-one;
-        counted = all-triangles (m .points) (m .triangles) (m .marks) (o .numbers) (o .shells) N (given .corners-fit);
+        counted = λ n l. rw (record-at n l) (counts n);
+        all-counted =
+            sum-cong (o .shells) _ _ (λ n l. ap (λ s. s .triangles) (record-at n l))
+            ∙ all-triangles (m .points) (m .triangles) (m .marks) (o .numbers) (o .shells) N (given .corners-fit);
       }
 
   -- no side leads out of a shell
-  sides-stay : (n : ℕ) → SidesStay (inShell (o .numbers) n) (trianglesOf (m .triangles))
+  pub sides-stay : (n : ℕ) → SidesStay (inShell (o .numbers) n) (trianglesOf (m .triangles))
   unfolding trianglesOf sides
   sides-stay n =
       of-join (λ ts. SidesStay (inShell (o .numbers) n) ts) tt both-parts (triangleCount (m .triangles)) (λ i. triangleAt (m .triangles) i ∷ [])
@@ -127,13 +151,13 @@ module _ (m : Mesh) (numbers work : List ℕ) (room : List Shell) (o : Outcome) 
           rw (sides-append xs ys) (all-append (λ s. inShell (o .numbers) n (s .from) ≡ inShell (o .numbers) n (s .to)) (sides xs) (sides ys) a b)
 
   -- a shell that touches no outer face has no marked point
-  no-mark : (n : ℕ) → record-of n .touches ≡ 0 → Unmarked (inShell (o .numbers) n) m
+  pub no-mark : (n : ℕ) → n < o .shells → recordAt after n .touches ≡ 0 → Unmarked (inShell (o .numbers) n) m
   unfolding recordFrom pointsUnder
-  no-mark n touches p here = go (decLt p (length (m .marks)))
+  no-mark n small touches p here = go (decLt p (length (m .marks)))
     where
       go : Dec (p < length (m .marks)) → getD (m .marks) p 0 ≡ 0
       go (yes l) =
-          let f = none-passes (λ q. eqb (getD (m .marks) q 0) 1) (keepTo (length (m .marks)) (inShell (o .numbers) n)) (countTo p (inShell (o .numbers) n)) 0 (one-is-none _ touches)
+          let f = none-passes (λ q. eqb (getD (m .marks) q 0) 1) (keepTo (length (m .marks)) (inShell (o .numbers) n)) (countTo p (inShell (o .numbers) n)) 0 (is-none _ (sym (ap (λ s. s .touches) (record-at n small)) ∙ touches))
           (omega (arith, length-keep (length (m .marks)) (inShell (o .numbers) n), rank-lt (length (m .marks)) p (inShell (o .numbers) n) l here)) in
           let e = rw (at-rank (length (m .marks)) p (inShell (o .numbers) n) l here) at f in
           let d = eqb-false (getD (m .marks) p 0) 1 e in
@@ -144,20 +168,3 @@ module _ (m : Mesh) (numbers work : List ℕ) (room : List Shell) (o : Outcome) 
           not-one (suc zero) l d = absurd (d refl)
           not-one (suc (suc k)) l d = absurd (omega arith)
       go (no l) = List·getD-eq-default (m .marks) 0 (omega arith)
-
--- the shells of an extracted mesh, raw or smoothed, in a granted list
-module _ (nx ny nz grey : ℕ) (samples : List ℕ) (before : Rooms) (left : Extracted) (extracts : Extracts nx ny nz grey samples before left) (granted-mesh : left .number ≡ 0)
-    (numbers work : List ℕ) (room : List Shell) (o : Outcome) (after : List Shell) (none : o .number ≡ 0) (n : ℕ) (d : Shell) (small : n < o .shells) (touches : getD after n d .touches ≡ 0) where
-  pub listed-shell-closed : let m = meshLeft left in Shells (m .points) (m .triangles) (m .marks) numbers work room o after
-      → Closed (trianglesIn (inShell (o .numbers) n) (trianglesOf (m .triangles)))
-  listed-shell-closed shells =
-      let m = meshLeft left in
-      shell-closed nx ny nz grey samples before left extracts granted-mesh (inShell (o .numbers) n) (sides-stay m numbers work room o after shells none n)
-      (no-mark m numbers work room o after shells none n (sym (ap (λ s. s .touches) (record-at m numbers work room o after shells none n d small)) ∙ touches))
-
-  pub smoothed-listed-shell-closed : (k w : ℕ) → let m = smoothed k w (meshLeft left) in Shells (m .points) (m .triangles) (m .marks) numbers work room o after
-      → Closed (trianglesIn (inShell (o .numbers) n) (trianglesOf (m .triangles)))
-  smoothed-listed-shell-closed k w shells =
-      let m = smoothed k w (meshLeft left) in
-      smoothed-shell-closed nx ny nz grey samples before left extracts granted-mesh (inShell (o .numbers) n) k w (sides-stay m numbers work room o after shells none n)
-      (no-mark m numbers work room o after shells none n (sym (ap (λ s. s .touches) (record-at m numbers work room o after shells none n d small)) ∙ touches))

@@ -2,7 +2,7 @@
 -- grid edges may be of any kind, and the cells cut in any way.
 use mathlib.Core.Path.{_≡_, refl, ap, sym, _∙_}
 use mathlib.Core.List.{List, map}
-use mathlib.Core.Bool.{Bool, true, false, _&&_, _||_, and-comm, false≢true, true≢false}
+use mathlib.Core.Bool.{Bool, true, false, _&&_, and-comm, false≢true}
 use Prim.Native.Nat.{ℕ, zero, suc, _<_}
 use native.Mathlib.Omega.{arith}
 use lib.Dec.{eqb}
@@ -10,6 +10,7 @@ use lib.ListN.{getD}
 use borrow.Author.Tests.{eqb-true}
 use Rattle.laws.specs.Range.{one-if, joinBox}
 use Rattle.laws.specs.Mesh.{Arrow, Triangle, rename, sides, total}
+use Rattle.laws.proofs.Tests.{neither, is-none}
 use Rattle.laws.proofs.Sides.{total-rename}
 use Rattle.grid.specs.Grid.{Size, Kind, edgeCount, crossed, onFace, someFace, mark}
 use Rattle.grid.specs.Point.{pointEdges, number}
@@ -24,10 +25,6 @@ pub record OnRim (k : Kind) (n : Size) (above : ℕ → Bool) (axis : ℕ) (last
   pub flat : onFace k n axis last e ≡ true
 
 -- where no outer face passes a test, each fails it
-neither : (a b : Bool) → (a || b) ≡ false → (a ≡ false) × (b ≡ false)
-neither true b h = absurd (true≢false h)
-neither false b h = (refl, h)
-
 none-of : (t : ℕ → Bool → Bool) → someFace t ≡ false → (axis : ℕ) (last : Bool) → axis < 3 → t axis last ≡ false
 unfolding someFace
 none-of t h axis last l =
@@ -61,10 +58,6 @@ module _ (k : Kind) (n : Size) (above : ℕ → Bool) where
   unfolding onOneFace
   apart-by-faces p q h axis last l a b =
       false≢true (sym (none-of (λ axis last. onFace k n axis last (edgeOf p) && onFace k n axis last (edgeOf q)) h axis last l) ∙ rw (a, b))
-
-  is-none : (b : Bool) → one-if b ≡ 0 → b ≡ false
-  is-none true h = absurd (omega arith)
-  is-none false h = refl
 
   apart-by-mark : (p q : ℕ) → mark k n (edgeOf p) ≡ 0 → Apart p q
   unfolding mark

@@ -1,16 +1,18 @@
 -- A mesh that the extractor left passes every check of a caller's mesh, so that no call on a mesh refuses it by 6, 7, 8 or 9.
-use mathlib.Core.Path.{_≡_, refl, ap, _∙_}
+use mathlib.Core.Path.{_≡_, ap, _∙_}
 use mathlib.Core.List.{List, [], _∷_, map, flatMap}
 use mathlib.Core.Bool.{Bool, true}
 use Prim.Native.Nat.{ℕ, zero, suc, _*_, _/_, _%_, _<_, _≤_}
 use native.Mathlib.Omega.{arith}
 use lib.ListN.{length, getD, length-map}
 use borrow.Author.Tests.{eq-eqb, ne-eqb, lt-ltb, le-leb}
-use Rattle.laws.specs.Range.{allTo}
 use Rattle.laws.specs.Sum.{All}
 use Rattle.laws.specs.Mesh.{Arrow, Triangle, triangle, sides, flat}
+use Rattle.laws.proofs.Tests.{all-holds}
 use Rattle.laws.proofs.Ranges.{length-flat}
+use Rattle.laws.proofs.Lists.{all-get, all-of-places, all-flat}
 use Rattle.laws.proofs.Sums.{all-append, all-map, all-weaken}
+use Rattle.laws.proofs.Sides.{length-corners}
 use Rattle.grid.specs.Limits.{mostSide, mostPoints, mostTriangles, mostCoordinate}
 use Rattle.grid.specs.Grid.{axes, isAboveGrey, mark, side}
 use Rattle.grid.specs.Point.{pointEdges, place}
@@ -23,33 +25,11 @@ use Rattle.extract.specs.Promise.{Extracts}
 use Rattle.mesh.specs.Mesh.{triangleCount}
 use Rattle.mesh.specs.Check.{lengthsFit, namesThree, trianglesFit, allWithin, meshNumber}
 use Rattle.closed.specs.Left.{meshLeft}
-use Rattle.closed.proofs.Granted.{Granted, left-granted, length-flat-triangles, triangle-at-flat, place-three}
-
--- a test that every number below n passes
-all-to : (n : ℕ) (p : ℕ → Bool) → ((i : ℕ) → i < n → p i ≡ true) → allTo n p ≡ true
-unfolding allTo
-all-to zero p h = refl
-all-to (suc n) p h = rw (h n (omega arith), all-to n p (λ i l. h i (omega arith)))
-
--- a property of every element, at one place
-all-at-place : {A : Type 0} (P : A → Type 0) (xs : List A) → All P xs → (i : ℕ) (d : A) → i < length xs → P (getD xs i d)
-all-at-place P [] a i d l = absurd (omega arith)
-all-at-place P (x ∷ xs) a zero d l = a .0
-all-at-place P (x ∷ xs) a (suc i) d l = all-at-place P xs (a .1) i d (omega arith)
-
--- and from each place
-all-of-places : {A : Type 0} (P : A → Type 0) (d : A) (xs : List A) → ((i : ℕ) → i < length xs → P (getD xs i d)) → All P xs
-all-of-places P d [] h = tt
-all-of-places P d (x ∷ xs) h = (h 0 (omega arith), all-of-places P d xs (λ i l. h (suc i) (omega arith)))
-
-all-flat : {A B : Type 0} (P : B → Type 0) (g : A → List B) (xs : List A) → All (λ x. All P (g x)) xs → All P (flatMap g xs)
-unfolding flatMap
-all-flat P g [] a = tt
-all-flat P g (x ∷ xs) a = all-append P (g x) (flatMap g xs) (a .0) (all-flat P g xs (a .1))
+use Rattle.closed.proofs.Granted.{Granted, left-granted, triangle-at-flat, place-three}
 
 within : (most : ℕ) (xs : List ℕ) → All (λ x. x ≤ most) xs → allWithin most xs ≡ true
 unfolding allWithin
-within most xs a = all-to (length xs) _ (λ i l. le-leb (getD xs i 0) most (all-at-place (λ x. x ≤ most) xs a i 0 l))
+within most xs a = all-holds (length xs) _ (λ i l. le-leb (getD xs i 0) most (all-get (λ x. x ≤ most) xs i 0 a l))
 
 -- 7: where every side joins two different points below v, every triangle names three different points below v
 module _ (v : ℕ) where
@@ -77,11 +57,11 @@ module _ (v : ℕ) where
   flat-fits : (ts : List Triangle) → All Joins (sides ts) → trianglesFit (flat ts) v ≡ true
   unfolding trianglesFit
   flat-fits ts a =
-      all-to (triangleCount (flat ts)) _
+      all-holds (triangleCount (flat ts)) _
       (λ i l.
-      let below : i < length ts = omega (arith, l, length-flat-triangles ts) in
+      let below : i < length ts = omega (arith, l, length-corners ts) in
       ap (namesThree v) (triangle-at-flat ts i (triangle 0 0 0) below)
-      ∙ all-at-place (λ t. namesThree v t ≡ true) ts (three-named ts a) i (triangle 0 0 0) below)
+      ∙ all-get (λ t. namesThree v t ≡ true) ts i (triangle 0 0 0) (three-named ts a) below)
 
 -- 6: three numbers a point and three a triangle, within the limits
 lengths-fit : (points triangles v t : ℕ) → points ≡ 3 * v → triangles ≡ 3 * t → v ≤ mostPoints → t ≤ mostTriangles → lengthsFit points triangles v ≡ true
@@ -140,7 +120,7 @@ module _ (nx ny nz grey : ℕ) (samples : List ℕ) (before : Rooms) (after : Ou
       (rw (
         lengths-fit (length (flatMap (place axes (size nx ny nz) grey samples) points)) (length (flat ts)) v (length ts)
             (length-flat 3 (place axes (size nx ny nz) grey samples) (place-three nx ny nz grey samples before) points)
-            (length-flat-triangles ts)
+            (length-corners ts)
             (left .points-fit)
             (left .triangles-fit),
         flat-fits v ts sides-join,

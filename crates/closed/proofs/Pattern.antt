@@ -13,9 +13,8 @@ use Rattle.laws.specs.Mesh.{sides, total}
 use Rattle.laws.proofs.Tests.{both}
 use Rattle.laws.proofs.Sums.{sum-append, sum-flat}
 use Rattle.laws.proofs.Rearranged.{sum-rearranged}
-use Rattle.cube.specs.Face.{faceSegments, segmentsOf}
-use Rattle.cube.proofs.Turned.{back}
-use Rattle.closed.specs.Pattern.{Ring, moved, Pattern, andBack, fitted, TurnsRound}
+use Rattle.cube.specs.Face.{faceSegments, segmentsOf, back}
+use Rattle.closed.specs.Pattern.{Ring, further, Pattern, TurnsRound}
 
 unfoldable pub sameRing : Ring → Ring → Bool
 sameRing [] [] = true
@@ -32,12 +31,22 @@ same-ring (c ∷ cs) (d ∷ ds) h =
     let p = both (eqb c d) (sameRing cs ds) h in
     rw (eqb-true c d (p .0), same-ring cs ds (p .1))
 
+-- rings, and others seen from the other side
+unfoldable pub andBack : List Ring → List Ring → List Ring
+andBack rs ss = rs ++ map back ss
+
+-- the faces as they have to be: the low sides; the high sides, which are the next cells' low sides seen from this cell; the inner faces from both sides
+unfoldable pub fitted : Pattern → List Ring
+fitted p =
+    andBack (p .low-x) (map (further 1) (p .low-x))
+    ++ (andBack (p .low-y) (map (further 2) (p .low-y)) ++ (andBack (p .low-z) (map (further 4) (p .low-z)) ++ andBack (p .inner) (p .inner)))
+
 -- what a pattern owes
 pub record PatternLaw (p : Pattern) : Type 0 where
   pub fit : rearranged sameRing (p .faces) (fitted p) ≡ true
-  pub turns-x : All (TurnsRound (p .edge)) (map (moved 1) (p .low-x))
-  pub turns-y : All (TurnsRound (p .edge)) (map (moved 2) (p .low-y))
-  pub turns-z : All (TurnsRound (p .edge)) (map (moved 4) (p .low-z))
+  pub turns-x : All (TurnsRound (p .edge)) (map (further 1) (p .low-x))
+  pub turns-y : All (TurnsRound (p .edge)) (map (further 2) (p .low-y))
+  pub turns-z : All (TurnsRound (p .edge)) (map (further 4) (p .low-z))
   pub turns-inner : All (TurnsRound (p .edge)) (p .inner)
   -- one cell's triangles run as the segments of its faces
   pub even : (above : ℕ → Bool) (w : ℕ → ℕ → ℕ)
@@ -83,16 +92,16 @@ pub faces-parted : (p : Pattern) → PatternLaw p → (above : ℕ → Bool) (w 
     → let there : List Ring → ℕ = λ rs. total w (segmentsOf above (p .edge) rs) in
     let back : List Ring → ℕ = λ rs. total (λ i j. w j i) (segmentsOf above (p .edge) rs) in
     there (p .faces)
-    ≡ there (p .low-x) + back (map (moved 1) (p .low-x))
-    + (there (p .low-y) + back (map (moved 2) (p .low-y)))
-    + (there (p .low-z) + back (map (moved 4) (p .low-z)))
+    ≡ there (p .low-x) + back (map (further 1) (p .low-x))
+    + (there (p .low-y) + back (map (further 2) (p .low-y)))
+    + (there (p .low-z) + back (map (further 4) (p .low-z)))
     + (there (p .inner) + back (p .inner))
 unfolding fitted
 faces-parted p law above w =
     let edge = p .edge in
-    let xs = andBack (p .low-x) (map (moved 1) (p .low-x)) in
-    let ys = andBack (p .low-y) (map (moved 2) (p .low-y)) in
-    let zs = andBack (p .low-z) (map (moved 4) (p .low-z)) in
+    let xs = andBack (p .low-x) (map (further 1) (p .low-x)) in
+    let ys = andBack (p .low-y) (map (further 2) (p .low-y)) in
+    let zs = andBack (p .low-z) (map (further 4) (p .low-z)) in
     let is = andBack (p .inner) (p .inner) in
     rings-rearranged above edge w (p .faces) (fitted p) (law .fit)
     ∙ omega (
@@ -100,8 +109,8 @@ faces-parted p law above w =
       rings-append above edge w xs (ys ++ (zs ++ is)),
       rings-append above edge w ys (zs ++ is),
       rings-append above edge w zs is,
-      rings-and-back above edge w (p .low-x) (map (moved 1) (p .low-x)) (law .turns-x),
-      rings-and-back above edge w (p .low-y) (map (moved 2) (p .low-y)) (law .turns-y),
-      rings-and-back above edge w (p .low-z) (map (moved 4) (p .low-z)) (law .turns-z),
+      rings-and-back above edge w (p .low-x) (map (further 1) (p .low-x)) (law .turns-x),
+      rings-and-back above edge w (p .low-y) (map (further 2) (p .low-y)) (law .turns-y),
+      rings-and-back above edge w (p .low-z) (map (further 4) (p .low-z)) (law .turns-z),
       rings-and-back above edge w (p .inner) (p .inner) (law .turns-inner),
     )

@@ -1,5 +1,5 @@
 -- The balance as a reader of the extractor's promise has it: of the triangles in the lent room, for the grid edges and marks in theirs.
-use mathlib.Core.Path.{_≡_, refl, ap, sym, _∙_}
+use mathlib.Core.Path.{_≡_, ap, sym, _∙_}
 use mathlib.Core.List.{List}
 use mathlib.Core.Bool.{false, _&&_, and-false}
 use Prim.Native.Nat.{ℕ, _<_, _≤_}
@@ -21,7 +21,7 @@ use Rattle.extract.specs.Extraction.{Rooms, Outcome, pointList, triangleList}
 use Rattle.extract.specs.Promise.{Extracts}
 use Rattle.closed.specs.Runs.{runs, Even, Balanced}
 use Rattle.mesh.specs.Mesh.{trianglesOf}
-use Rattle.closed.specs.Left.{meshLeft, edgesLeft, smoothed}
+use Rattle.closed.specs.Left.{meshLeft, edgesLeft}
 use Rattle.closed.proofs.Law.{ends-nothing}
 use Rattle.closed.proofs.Balance.{balanced, unmarked-balanced}
 use Rattle.closed.proofs.Granted.{Granted, left-granted, triangles-of-flat}
@@ -78,16 +78,3 @@ module _ (nx ny nz grey : ℕ) (samples : List ℕ) (before : Rooms) (after : Ou
       go : Dec (p < length (meshLeft after .marks)) → Even (triangleList (size nx ny nz) grey samples before) p q
       go (yes l) = unmarked-below p q l m
       go (no l) = beyond p q (omega arith)
-
-  -- the same after smoothing, which leaves the list of triangles as it is
-  pub smoothed-same : (k w : ℕ) → smoothed k w (meshLeft after) .triangles ≡ meshLeft after .triangles
-  unfolding smoothed
-  smoothed-same k w = refl
-
-  pub smoothed-balanced : (k w : ℕ) → Balanced axes (size nx ny nz) (edgesLeft after) (trianglesOf (smoothed k w (meshLeft after) .triangles))
-  smoothed-balanced k w = rw (smoothed-same k w) extract-balanced
-
-  pub smoothed-unmarked : (k w p q : ℕ) → getD (smoothed k w (meshLeft after) .marks) p 0 ≡ 0
-      → Even (trianglesOf (smoothed k w (meshLeft after) .triangles)) p q
-  unfolding smoothed
-  smoothed-unmarked k w p q m = extract-unmarked p q m

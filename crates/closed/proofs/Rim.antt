@@ -20,18 +20,11 @@ use Rattle.grid.specs.Mesh.{cornerSite, gridEdge, caseAt}
 use Rattle.grid.proofs.Sites.{choose, coordinate-site}
 use Rattle.grid.proofs.Crossings.{edge-sample, edge-axis}
 use Rattle.grid.proofs.Edges.{grid-edge-crossed, grid-edge-small}
-use Rattle.closed.specs.Pattern.{Ring, moved, cubes}
+use Rattle.closed.specs.Pattern.{Ring, further, cubes}
 use Rattle.closed.proofs.Law.{OuterLaw}
 use Rattle.closed.proofs.Numbered.{OnRim}
 use Rattle.closed.proofs.Cells.{across, made}
 use Rattle.closed.proofs.Cubes.{corner, cubes-next}
-
--- what both ends of the segments of each ring have, those of all rings have
-pub rings-ends : (P : ℕ → Type 0) (above : ℕ → Bool) (edge : ℕ → ℕ → ℕ) (rs : List Ring)
-    → All (λ r. All (Ends P) (faceSegments above edge r)) rs → All (Ends P) (segmentsOf above edge rs)
-unfolding segmentsOf flatMap
-rings-ends P above edge [] a = tt
-rings-ends P above edge (r ∷ rs) a = all-append (Ends P) (faceSegments above edge r) (segmentsOf above edge rs) (a .0) (rings-ends P above edge rs (a .1))
 
 -- the edge e goes between corners c and d
 between : ℕ → ℕ → ℕ → Bool
@@ -149,8 +142,9 @@ module _ (n : Size) (above : ℕ → Bool) (hx : 2 ≤ n .nx) (hy : 2 ≤ n .ny)
   ring-on-rim : (axis : ℕ) (last : Bool) (x y z : ℕ) (ring : Ring)
       → All (Ends (On axis last)) (faceSegments (corner n above x y z) (λ c d. gridEdge n x y z (edgeBetween c d)) ring)
       → All (Ends (On axis last)) (segs (ring ∷ []) x y z)
+  unfolding segmentsOf flatMap
   ring-on-rim axis last x y z ring a =
-      rings-ends (On axis last) (corner n above x y z) (λ c d. gridEdge n x y z (edgeBetween c d)) (ring ∷ []) (a, tt)
+      all-append (Ends (On axis last)) (faceSegments (corner n above x y z) (λ c d. gridEdge n x y z (edgeBetween c d)) ring) [] a tt
 
   -- the high side of a last cube is the low side of the cube that would come next
   carried : (axis : ℕ) (last : Bool) (ss ts : List Arrow) → ss ≡ ts → All (Ends (On axis last)) ss → All (Ends (On axis last)) ts
@@ -168,7 +162,7 @@ module _ (n : Size) (above : ℕ → Bool) (hx : 2 ≤ n .nx) (hy : 2 ≤ n .ny)
   unfolding side onSide between
   last-x y z ly lz =
       let x = n .nx - 2 in
-      carried 0 true (segs (map (moved 1) (cubes .low-x)) x y z) (segs (cubes .low-x) (n .nx - 1) y z)
+      carried 0 true (segs (map (further 1) (cubes .low-x)) x y z) (segs (cubes .low-x) (n .nx - 1) y z)
       (cubes-next n above .next-x x y z ∙ ap (λ x. segs (cubes .low-x) x y z) (before-last (n .nx) hx))
       (ring-on-rim 0 true x y z (1 ∷ 5 ∷ 7 ∷ 3 ∷ []) (face-on-rim n above x y z (omega arith) (omega arith) (omega arith) 0 true (before-last (n .nx) hx) 1 5 7 3 refl))
 
@@ -181,7 +175,7 @@ module _ (n : Size) (above : ℕ → Bool) (hx : 2 ≤ n .nx) (hy : 2 ≤ n .ny)
   unfolding side onSide between
   last-y x z lx lz =
       let y = n .ny - 2 in
-      carried 1 true (segs (map (moved 2) (cubes .low-y)) x y z) (segs (cubes .low-y) x (n .ny - 1) z)
+      carried 1 true (segs (map (further 2) (cubes .low-y)) x y z) (segs (cubes .low-y) x (n .ny - 1) z)
       (cubes-next n above .next-y x y z ∙ ap (λ y. segs (cubes .low-y) x y z) (before-last (n .ny) hy))
       (ring-on-rim 1 true x y z (2 ∷ 3 ∷ 7 ∷ 6 ∷ []) (face-on-rim n above x y z (omega arith) (omega arith) (omega arith) 1 true (before-last (n .ny) hy) 2 3 7 6 refl))
 
@@ -194,7 +188,7 @@ module _ (n : Size) (above : ℕ → Bool) (hx : 2 ≤ n .nx) (hy : 2 ≤ n .ny)
   unfolding side onSide between
   last-z x y lx ly =
       let z = n .nz - 2 in
-      carried 2 true (segs (map (moved 4) (cubes .low-z)) x y z) (segs (cubes .low-z) x y (n .nz - 1))
+      carried 2 true (segs (map (further 4) (cubes .low-z)) x y z) (segs (cubes .low-z) x y (n .nz - 1))
       (cubes-next n above .next-z x y z ∙ ap (λ z. segs (cubes .low-z) x y z) (before-last (n .nz) hz))
       (ring-on-rim 2 true x y z (4 ∷ 6 ∷ 7 ∷ 5 ∷ []) (face-on-rim n above x y z (omega arith) (omega arith) (omega arith) 2 true (before-last (n .nz) hz) 4 6 7 5 refl))
 

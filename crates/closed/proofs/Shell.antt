@@ -1,4 +1,4 @@
--- A set of points that no side leads out of, none of them on an outer face, has closed triangles.
+-- A set of points that no side leads out of or into, and from which triangles run evenly, has closed triangles.
 use mathlib.Core.Path.{_≡_, refl, ap, sym, _∙_}
 use mathlib.Core.List.{List, [], _∷_}
 use mathlib.Core.Bool.{Bool, true, false, cond, _&&_, and-false, true≢false, false≢true}
@@ -9,13 +9,8 @@ use borrow.Author.Tests.{ne-eqb}
 use Rattle.laws.specs.Range.{one-if}
 use Rattle.laws.specs.Sum.{sumOf}
 use Rattle.laws.specs.Mesh.{Triangle, sides, total}
-use Rattle.extract.specs.Extraction.{Rooms, Outcome}
-use Rattle.extract.specs.Promise.{Extracts}
 use Rattle.closed.specs.Runs.{runs, Even}
-use Rattle.mesh.specs.Mesh.{trianglesOf}
-use Rattle.closed.specs.Left.{meshLeft, smoothed}
-use Rattle.closed.specs.Shell.{SidesStay, Unmarked, trianglesIn, Closed}
-use Rattle.closed.proofs.Promised.{extract-unmarked, smoothed-unmarked}
+use Rattle.closed.specs.Shell.{SidesStay, trianglesIn, Closed}
 
 module _ (inside : ℕ → Bool) (w : ℕ → ℕ → ℕ) where
   -- a weight that is nothing where both ends have the value b
@@ -85,18 +80,3 @@ module _ (inside : ℕ → Bool) (ts : List Triangle) (stay : SidesStay inside t
       go false h =
           none-inside inside there (from-elsewhere false true p q h false≢true) ts stay
           ∙ sym (none-inside inside back (to-elsewhere false true p q h false≢true) ts stay)
-
--- of a mesh that the extractor left, raw and smoothed
-module _ (nx ny nz grey : ℕ) (samples : List ℕ) (before : Rooms) (after : Outcome) (extracts : Extracts nx ny nz grey samples before after)
-    (none : after .number ≡ 0) (inside : ℕ → Bool) where
-  pub shell-closed : SidesStay inside (trianglesOf (meshLeft after .triangles)) → Unmarked inside (meshLeft after)
-      → Closed (trianglesIn inside (trianglesOf (meshLeft after .triangles)))
-  shell-closed stay unmarked =
-      closes inside (trianglesOf (meshLeft after .triangles)) stay
-      (λ p q h. extract-unmarked nx ny nz grey samples before after extracts none p q (unmarked p h))
-
-  pub smoothed-shell-closed : (k w : ℕ) → let m = smoothed k w (meshLeft after) in
-      SidesStay inside (trianglesOf (m .triangles)) → Unmarked inside m → Closed (trianglesIn inside (trianglesOf (m .triangles)))
-  smoothed-shell-closed k w stay unmarked =
-      closes inside (trianglesOf (smoothed k w (meshLeft after) .triangles)) stay
-      (λ p q h. smoothed-unmarked nx ny nz grey samples before after extracts none k w p q (unmarked p h))

@@ -1,45 +1,27 @@
--- The slit that started it: a table that uses case 246 as case 9 reversed. Alone the cube looks well; beside its neighbour the balance finds the slit.
+-- The balance finds the slit: it does not hold of the two cubes where a table uses case 246 as case 9 reversed.
 use mathlib.Core.Path.{_≡_, refl}
-use mathlib.Core.List.{List, [], _∷_, map, flatMap}
+use mathlib.Core.List.{[], _∷_, flatMap}
 use mathlib.Core.Bool.{false, xor}
 use Prim.Native.Nat.{ℕ}
 use native.Mathlib.Omega.{arith}
 use Rattle.laws.specs.Range.{sumTo, joinTo, joinBox, countTo, keepTo}
 use Rattle.laws.specs.Sum.{sumOf}
 use Rattle.laws.specs.Bits.{bits, bit}
-use Rattle.laws.specs.Mesh.{Triangle, rename, sides, total}
+use Rattle.laws.specs.Mesh.{sides, total}
 use Rattle.cube.specs.Cube.{caseOf, isAbove}
 use Rattle.cube.specs.Face.{cuts, wayRound, faceSegments, segmentsOf}
 use Rattle.cube.specs.Loop.{loops, fan}
 use Rattle.cube.specs.Answer.{segments, triangles}
 use Rattle.grid.specs.Grid.{axes, site, coordinate, side, isAboveGrey, otherEnd, fitsAlong, isThere, isOutermost, someFace, crossedFrom, crossed, onFaceFrom, onFace}
 use Rattle.grid.specs.Point.{pointEdges, number}
-use Rattle.grid.specs.Mesh.{cornerSite, gridEdge}
+use Rattle.grid.specs.Mesh.{cornerSite, gridEdge, caseAt}
 use Rattle.closed.specs.Runs.{runs, onOneFace, Balanced}
 use Rattle.closed.specs.Fourfold.{twoCubes, twoCubesAbove}
-use Rattle.closed.specs.Pattern.{Pattern, wrongTriangles, cubes}
-use Rattle.closed.proofs.Cells.{made}
-use Rattle.closed.proofs.Cubes.{corner}
-
-unfoldable pub wrongCubes : Pattern
-wrongCubes =
-    record {
-      edge = cubes .edge;
-      faces = cubes .faces;
-      low-x = cubes .low-x;
-      low-y = cubes .low-y;
-      low-z = cubes .low-z;
-      inner = [];
-      triangles = λ above. wrongTriangles (caseOf above);
-    }
-
--- the mesh of the two cubes by that table
-unfoldable pub wrongMesh : List Triangle
-wrongMesh = map (rename (number axes twoCubes twoCubesAbove)) (joinBox 1 1 2 (made wrongCubes (corner twoCubes twoCubesAbove) (gridEdge twoCubes)))
+use Rattle.closed.specs.Slit.{wrongTriangles, wrongMesh}
 
 -- from point 2 to point 5 a triangle runs once, and none runs back, though they lie on no common outer face
 once-there : (runs wrongMesh 2 5 ≡ 1) × (runs wrongMesh 5 2 ≡ 0)
-unfolding wrongMesh wrongCubes wrongTriangles runs total sides sumOf joinBox joinTo caseOf bits cornerSite site isAboveGrey triangles flatMap fan loops segments segmentsOf faceSegments cuts wayRound isAbove bit gridEdge number countTo sumTo crossed crossedFrom isThere fitsAlong coordinate side otherEnd xor
+unfolding wrongMesh wrongTriangles runs total sides sumOf joinBox joinTo caseAt caseOf bits cornerSite site isAboveGrey triangles flatMap fan loops segments segmentsOf faceSegments cuts wayRound isAbove bit gridEdge number countTo sumTo crossed crossedFrom isThere fitsAlong coordinate side otherEnd xor
 once-there = (refl, refl)
 
 points-are : pointEdges axes twoCubes twoCubesAbove ≡ 2 ∷ 11 ∷ 12 ∷ 13 ∷ 14 ∷ 16 ∷ 18 ∷ 23 ∷ []

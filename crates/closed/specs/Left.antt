@@ -1,10 +1,12 @@
--- The mesh that a call of the extractor left in the lent rooms, and the same mesh smoothed.
+-- Of which mesh demand 3 speaks: one that "was extracted here, smoothed here or not".
+use mathlib.Core.Path.{_≡_}
 use mathlib.Core.List.{List}
 use Prim.Native.Nat.{ℕ, _*_}
 use lib.ListN.{take}
-use Rattle.extract.specs.Extraction.{Outcome}
-use Rattle.mesh.specs.Mesh.{trianglesOf}
-use Rattle.rounds.specs.Round.{rounds}
+use Rattle.grid.specs.Grid.{Size}
+use Rattle.extract.specs.Extraction.{Rooms, Outcome}
+use Rattle.extract.specs.Promise.{Extracts}
+use Rattle.smooth.specs.Promise.{Smooths}
 
 -- a mesh as the calls on a mesh take it: three coordinates a point, three points a triangle, a mark a point
 pub record Mesh : Type 0 where
@@ -25,11 +27,12 @@ meshLeft o =
 unfoldable pub edgesLeft : Outcome → List ℕ
 edgesLeft o = take (o .pointCount) (o .rooms .edges)
 
--- k rounds of weight w give the points other places; triangles and marks are the mesh's own
-unfoldable pub smoothed : ℕ → ℕ → Mesh → Mesh
-smoothed k w m =
-    record {
-      points = rounds (trianglesOf (m .triangles)) (m .marks) w k (m .points);
-      triangles = m .triangles;
-      marks = m .marks;
-    }
+-- a mesh, and the grid edges of its points, that was extracted here from a grid of size n, smoothed here or not
+pub data Here (n : Size) : Mesh → List ℕ → Type 0 where
+  -- what a granted call of the extractor left
+  extracted-here : (grey : ℕ) (samples : List ℕ) (before : Rooms) (after : Outcome) → Extracts (n .nx) (n .ny) (n .nz) grey samples before after
+      → after .number ≡ 0 → Here n (meshLeft after) (edgesLeft after)
+  -- what a granted call of smoothing on such a mesh left in the second point list, as the points of the same triangles and marks
+  smoothed-here : {m : Mesh} {edges : List ℕ} → Here n m edges → (k w : ℕ) (second work after left : List ℕ)
+      → Smooths (m .points) (m .triangles) (m .marks) k w second work 0 after left
+      → Here n (record { points = after; triangles = m .triangles; marks = m .marks }) edges

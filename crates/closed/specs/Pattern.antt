@@ -1,22 +1,20 @@
 -- How cells are cut, as a table of faces: each face as the ring of its corners, gone round counterclockwise as seen from outside. The law of cells reads
 -- any such table; `cubes` is document 01's.
 use mathlib.Core.Path.{_≡_}
-use mathlib.Core.List.{List, [], _∷_, _++_, map}
-use mathlib.Core.Bool.{Bool, cond}
+use mathlib.Core.List.{List, [], _∷_, map}
+use mathlib.Core.Bool.{Bool}
 use Prim.Native.Nat.{ℕ, _+_}
-use lib.Dec.{eqb}
-use Rattle.laws.specs.Mesh.{Triangle, triangle, total}
+use Rattle.laws.specs.Mesh.{Triangle, total}
 use Rattle.cube.specs.Cube.{caseOf, edgeBetween}
-use Rattle.cube.specs.Face.{faceSegments}
+use Rattle.cube.specs.Face.{faceSegments, back}
 use Rattle.cube.specs.Answer.{cubeFaces, triangles}
-use Rattle.cube.proofs.Turned.{back}
 
 -- a ring of corners, corner c being x + 2y + 4z, and the ring d corners further on
 abbrev pub Ring : Type 0
 Ring = List ℕ
 
-abbrev pub moved : ℕ → Ring → Ring
-moved d ring = map (λ c. c + d) ring
+abbrev pub further : ℕ → Ring → Ring
+further d ring = map (λ c. c + d) ring
 
 -- `edge` numbers the edge between two corners; `faces` are those of all pieces of a cell; `low-x` are those at its side towards the smaller x, and so
 -- on; `inner` has one side of each face between two pieces; `triangles` by which corners are above
@@ -29,24 +27,10 @@ pub record Pattern : Type 0 where
   pub inner : List Ring
   pub triangles : (ℕ → Bool) → List Triangle
 
--- rings, and others seen from the other side
-unfoldable pub andBack : List Ring → List Ring → List Ring
-andBack rs ss = rs ++ map back ss
-
--- the faces as they have to be: the low sides; the high sides, which are the next cells' low sides seen from this cell; the inner faces from both sides
-unfoldable pub fitted : Pattern → List Ring
-fitted p =
-    andBack (p .low-x) (map (moved 1) (p .low-x))
-    ++ (andBack (p .low-y) (map (moved 2) (p .low-y)) ++ (andBack (p .low-z) (map (moved 4) (p .low-z)) ++ andBack (p .inner) (p .inner)))
-
 -- a face seen from the other side has the same segments, running the other way, whatever a segment weighs
 abbrev pub TurnsRound : (ℕ → ℕ → ℕ) → Ring → Type 0
 TurnsRound edge r = (above : ℕ → Bool) (w : ℕ → ℕ → ℕ)
     → total w (faceSegments above edge (back r)) ≡ total (λ i j. w j i) (faceSegments above edge r)
-
--- a table that uses case 246 as case 9 reversed. Alone it looks well; beside its neighbour the face is slit (`slit-found` in proofs/Slit.antt).
-unfoldable pub wrongTriangles : ℕ → List Triangle
-wrongTriangles k = cond (eqb k 246) (map (λ t. triangle (t .one) (t .three) (t .two)) (triangles 9)) (triangles k)
 
 -- whole cubes: the faces are document 01's, and those at the low sides are the first, third and fifth of them
 abbrev pub cubes : Pattern

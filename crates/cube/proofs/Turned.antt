@@ -13,13 +13,8 @@ use Rattle.laws.specs.Mesh.{Arrow, flip, sameArrow, total}
 use Rattle.laws.proofs.Tests.{row-at}
 use Rattle.laws.proofs.Sums.{sum-map}
 use Rattle.laws.proofs.Sides.{total-rearranged, total-flip}
-use Rattle.cube.specs.Face.{Step, cuts, wayRound, faceSegments}
+use Rattle.cube.specs.Face.{Step, cuts, wayRound, faceSegments, back}
 use Rattle.cube.proofs.Way.{byNamed, arrowNamed, cuts-renamed}
-
--- the ring gone round the other way, from the same corner
-unfoldable pub back : List ℕ → List ℕ
-back [] = []
-back (c ∷ cs) = c ∷ reverse cs
 
 -- the way round a face whose corners have these values, each step numbered by its place
 numbered : List Bool → List Step

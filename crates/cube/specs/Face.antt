@@ -1,5 +1,5 @@
 -- The face rule (document 01, "One cube", second paragraph).
-use mathlib.Core.List.{List, [], _∷_, _++_, flatMap}
+use mathlib.Core.List.{List, [], _∷_, _++_, flatMap, reverse}
 use mathlib.Core.Bool.{Bool, cond, not, _&&_}
 use Prim.Native.Nat.{ℕ}
 use Rattle.laws.specs.Mesh.{Arrow, arrow}
@@ -55,3 +55,8 @@ module _ (above : ℕ → Bool) (edge : ℕ → ℕ → ℕ) where
 
   unfoldable pub segmentsOf : List (List ℕ) → List Arrow
   segmentsOf faces = flatMap faceSegments faces
+
+-- a face has two cubes: the ring as the other goes round it, the other way from the same corner
+unfoldable pub back : List ℕ → List ℕ
+back [] = []
+back (c ∷ cs) = c ∷ reverse cs

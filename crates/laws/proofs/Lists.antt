@@ -5,11 +5,22 @@ use Prim.Native.Nat.{ℕ, zero, suc, _<_}
 use native.Mathlib.Omega.{arith}
 use lib.ListN.{length, getD}
 use Rattle.laws.specs.Sum.{All}
+use Rattle.laws.proofs.Sums.{all-append}
 
 pub all-get : {A : Type 0} (P : A → Type 0) (xs : List A) (i : ℕ) (d : A) → All P xs → i < length xs → P (getD xs i d)
 all-get P [] i d a l = absurd (omega arith)
 all-get P (x ∷ xs) zero d a l = a .0
 all-get P (x ∷ xs) (suc i) d a l = all-get P xs i d (a .1) (omega arith)
+
+-- and of all, where it holds at each place
+pub all-of-places : {A : Type 0} (P : A → Type 0) (d : A) (xs : List A) → ((i : ℕ) → i < length xs → P (getD xs i d)) → All P xs
+all-of-places P d [] h = tt
+all-of-places P d (x ∷ xs) h = (h 0 (omega arith), all-of-places P d xs (λ i l. h (suc i) (omega arith)))
+
+pub all-flat : {A B : Type 0} (P : B → Type 0) (g : A → List B) (xs : List A) → All (λ x. All P (g x)) xs → All P (flatMap g xs)
+unfolding flatMap
+all-flat P g [] a = tt
+all-flat P g (x ∷ xs) a = all-append P (g x) (flatMap g xs) (a .0) (all-flat P g xs (a .1))
 
 pub map-at : {A B : Type 0} (f : A → B) (xs : List A) (i : ℕ) (d : A) (e : B) → i < length xs → getD (map f xs) i e ≡ f (getD xs i d)
 map-at f [] i d e l = absurd (omega arith)

@@ -10,7 +10,7 @@ use native.Mathlib.Omega.{arith}
 use lib.Dec.{eqb}
 use lib.ListN.{length}
 use borrow.Author.Tests.{eq-eqb, ne-eqb, eqb-true, eqb-false}
-use Rattle.laws.specs.Range.{allTo}
+use Rattle.laws.specs.Range.{allTo, one-if}
 use Rattle.laws.specs.Sum.{allOf, All}
 use Rattle.laws.specs.Bits.{allRows}
 
@@ -101,3 +101,8 @@ alike true true h = refl
 alike true false h = h
 alike false true h = sym h
 alike false false h = refl
+
+-- a test that counts nothing fails
+pub is-none : (b : Bool) → one-if b ≡ 0 → b ≡ false
+is-none true h = absurd (omega arith)
+is-none false h = refl

@@ -7,13 +7,14 @@ use lib.Dec.{leb}
 use lib.ListN.{length, length-map}
 use borrow.Author.Tests.{leb-true}
 use Rattle.laws.proofs.Tests.{both}
+use Rattle.laws.proofs.Sides.{length-corners}
 use Rattle.grid.specs.Limits.{mostRounds, mostWeight}
 use Rattle.grid.specs.Grid.{axes, mark}
 use Rattle.grid.specs.Work.{size}
 use Rattle.extract.specs.Extraction.{Rooms, Outcome, pointList, triangleList, granted}
 use Rattle.extract.specs.Promise.{Extracts}
 use Rattle.closed.specs.Left.{meshLeft, edgesLeft}
-use Rattle.closed.proofs.Granted.{Granted, left-granted, length-flat-triangles}
+use Rattle.closed.proofs.Granted.{Granted, left-granted}
 use Rattle.closed.proofs.Passes.{extract-passes}
 use Rattle.gridtext.specs.declared.Parsed.{Parsed}
 use Rattle.gridtext.proofs.Checks.{passed}
@@ -75,7 +76,7 @@ module _ (p : Parsed) (samples : List ℕ) (small : SmallGrid p samples) where
           passes = extract-passes (p .nx) (p .ny) (p .nz) (p .grey) samples before after extracts none;
           edged = n .1 ∙ sym (n .2);
           few-points = omega (arith, n .0, n .2);
-          few-triangles = omega (arith, ap length (left .triangles-are), length-flat-triangles (triangleList (size (p .nx) (p .ny) (p .nz)) (p .grey) samples before), few-made);
+          few-triangles = omega (arith, ap length (left .triangles-are), length-corners (triangleList (size (p .nx) (p .ny) (p .nz)) (p .grey) samples before), few-made);
           room = room;
         }
 

@@ -13,7 +13,8 @@ use Rattle.grid.specs.Mesh.{mesh}
 use Rattle.mesh.specs.Mesh.{trianglesOf}
 use Rattle.shellnumbers.specs.Numbering.{Numbering}
 use Rattle.records.specs.Record.{recordOf}
-use Rattle.closed.specs.Left.{Mesh, smoothed}
+use Rattle.rounds.specs.Round.{rounds}
+use Rattle.closed.specs.Left.{Mesh}
 use Rattle.listing.specs.Listing.{recordNumbers}
 use Rattle.writing.specs.Writing.{refusalText}
 use Rattle.meshtext.specs.MeshText.{meshText}
@@ -21,6 +22,15 @@ use Rattle.gridtext.specs.Grid.{readGrid}
 use Rattle.gridtext.specs.GridText.{Small, sizeOf, gridText}
 use Rattle.gridtext.specs.declared.Head.{Head}
 use Rattle.gridtext.specs.declared.Parsed.{Parsed}
+
+-- k rounds of weight w give the points other places; triangles and marks are the mesh's own
+unfoldable pub afterRounds : ℕ → ℕ → Mesh → Mesh
+afterRounds k w m =
+    record {
+      points = rounds (trianglesOf (m .triangles)) (m .marks) w k (m .points);
+      triangles = m .triangles;
+      marks = m .marks;
+    }
 
 module _ (h : Head) (samples : List ℕ) where
   -- extract
@@ -37,7 +47,7 @@ module _ (h : Head) (samples : List ℕ) where
 
   -- smooth by the stated rounds and weight
   unfoldable pub smoothedMesh : Mesh
-  smoothedMesh = smoothed (h .rounds) (h .weight) extractedMesh
+  smoothedMesh = afterRounds (h .rounds) (h .weight) extractedMesh
 
 -- list the shells of a mesh, and write the mesh with their records
 pub record Prints (m : Mesh) (edges text : List ℕ) : Type 0 where

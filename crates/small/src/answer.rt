@@ -2,9 +2,8 @@
 ghost use Prim.Native.Nat.{_≤_};
 ghost use lib.ListN.{length, take};
 ghost use Rattle.grid.specs.Limits.{mostRounds, mostWeight};
-ghost use Rattle.closed.specs.Left.{smoothed as smoothedBy};
 ghost use Rattle.small.specs.Sizes.{mostOutput};
-ghost use Rattle.small.specs.Answer.{gridEdges, smoothedMesh, Prints, Answers};
+ghost use Rattle.small.specs.Answer.{afterRounds, gridEdges, smoothedMesh, Prints, Answers};
 ghost use Rattle.small.specs.Promise.{meshOf, SmallMesh, headIn, SmallGrid};
 use crate::zeros;
 use grid::limits::MOST_SMALL;
@@ -62,7 +61,9 @@ fn write_smoothed(
     requires { ⌜ SmallMesh (now points) (now edges) (now marks) (now triangles) (length (now output)) ⌝ }
     requires { ⌜ (rounds ≤ mostRounds) × (weight ≤ mostWeight) ⌝ }
     ensures inside { λ r. ⌜ r ≤ length (now (output .exit)) ⌝ }
-    ensures text { λ r. ⌜ Prints (smoothedBy rounds weight (meshOf (now (points .entry)) (now (triangles .entry)) (now (marks .entry)))) (now (edges .entry)) (take r (now (output .exit))) ⌝ }
+    ensures text { λ r.
+        let mesh = meshOf (now (points .entry)) (now (triangles .entry)) (now (marks .entry)) in
+        ⌜ Prints (afterRounds rounds weight mesh) (now (edges .entry)) (take r (now (output .exit))) ⌝ }
 {
     let v = marks.len();
     let t = triangles.len() / 3;

@@ -7,10 +7,10 @@ use lib.Seq.{length-take-le}
 use borrow.Author.Needs.{needs}
 use Rattle.extract.specs.Extraction.{Rooms, Outcome}
 use Rattle.extract.specs.Promise.{rooms, left}
-use Rattle.closed.specs.Left.{meshLeft, edgesLeft, smoothed}
+use Rattle.closed.specs.Left.{meshLeft, edgesLeft}
 use Rattle.gridtext.proofs.Checks.{passed}
 use Rattle.small.specs.Sizes.{mostSmallPoints, mostSmallTriangles}
-use Rattle.small.specs.Answer.{gridEdges, smoothedMesh, Prints}
+use Rattle.small.specs.Answer.{gridEdges, afterRounds, smoothedMesh, Prints}
 use Rattle.small.specs.Promise.{headIn}
 use Rattle.small.proofs.Steps.{RoomsHold}
 use Rattle.small.proofs.Extracted.{smoothing-fits, points-counted, triangles-counted, small-mesh, edges-are, mesh-is}
@@ -169,8 +169,8 @@ returns c =
     let mesh = mesh-is (a .grid) (a .samples .now) (s e .pre .0) (lent e) (after e) (hold e) (e .extract .ensures) in
     let edges = edges-are (a .grid) (a .samples .now) (s e .pre .0) (lent e) (after e) (hold e) (e .extract .ensures) in (
       r .write-smoothed .ensures .0,
-      subst (λ m. Prints (smoothed (a .grid .rounds) (a .grid .weight) m) (gridEdges (headIn (a .grid)) (a .samples .now)) text) mesh
-          (subst (λ g. Prints (smoothed (a .grid .rounds) (a .grid .weight) (meshLeft (after e))) g text) edges (r .write-smoothed .ensures .1)),
+      subst (λ m. Prints (afterRounds (a .grid .rounds) (a .grid .weight) m) (gridEdges (headIn (a .grid)) (a .samples .now)) text) mesh
+          (subst (λ g. Prints (afterRounds (a .grid .rounds) (a .grid .weight) (meshLeft (after e))) g text) edges (r .write-smoothed .ensures .1)),
     )
 
 pub write-grid-spec : {M : Type 1} → statement M

@@ -9,8 +9,7 @@ use borrow.Author.Needs.{needs}
 use Rattle.mesh.specs.Mesh.{trianglesOf}
 use Rattle.rounds.specs.Round.{rounds}
 use Rattle.rounds.proofs.Within.{smoothed-passes}
-use Rattle.closed.specs.Left.{smoothed}
-use Rattle.small.specs.Answer.{Prints}
+use Rattle.small.specs.Answer.{afterRounds, Prints}
 use Rattle.small.specs.Promise.{meshOf}
 use Rattle.small.proofs.Steps.{smooth-granted}
 use Rattle.small.proofs.answer.write_smoothed.Statement.{statement}
@@ -120,7 +119,7 @@ same-length : tie.Need-same-length
 same-length c = search needs
 
 returns : tie.Need-returns
-unfolding smoothed
+unfolding afterRounds
 returns c =
     let w = c .before .before in
     let m = w .before .before .before .before .before in

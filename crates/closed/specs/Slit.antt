@@ -1,0 +1,21 @@
+-- The slit that started it: a table that uses case 246 as case 9 reversed. Alone the cube looks well; beside its neighbour the face is slit.
+use mathlib.Core.List.{List, map}
+use mathlib.Core.Bool.{cond}
+use Prim.Native.Nat.{ℕ}
+use lib.Dec.{eqb}
+use Rattle.laws.specs.Range.{joinBox}
+use Rattle.laws.specs.Mesh.{Triangle, triangle, rename}
+use Rattle.cube.specs.Answer.{triangles}
+use Rattle.grid.specs.Grid.{axes}
+use Rattle.grid.specs.Point.{number}
+use Rattle.grid.specs.Mesh.{gridEdge, caseAt}
+use Rattle.closed.specs.Fourfold.{twoCubes, twoCubesAbove}
+
+unfoldable pub wrongTriangles : ℕ → List Triangle
+wrongTriangles k = cond (eqb k 246) (map (λ t. triangle (t .one) (t .three) (t .two)) (triangles 9)) (triangles k)
+
+-- the mesh of the two cubes by that table, else made as every mesh is
+unfoldable pub wrongMesh : List Triangle
+wrongMesh =
+    map (rename (number axes twoCubes twoCubesAbove))
+    (joinBox 1 1 2 (λ x y z. map (rename (gridEdge twoCubes x y z)) (wrongTriangles (caseAt twoCubes twoCubesAbove x y z))))
