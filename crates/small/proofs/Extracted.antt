@@ -18,9 +18,10 @@ use Rattle.closed.proofs.Granted.{Granted, left-granted}
 use Rattle.closed.proofs.Passes.{extract-passes}
 use Rattle.gridtext.specs.declared.Parsed.{Parsed}
 use Rattle.gridtext.proofs.Checks.{passed}
-use Rattle.small.specs.Sizes.{mostSmallPoints, mostSmallTriangles, mostOutput}
+use Rattle.printing.specs.Sizes.{mostSmallPoints, mostSmallTriangles, mostOutput}
 use Rattle.small.specs.Answer.{gridEdges, extractedMesh}
-use Rattle.small.specs.Promise.{meshOf, SmallMesh, headIn, SmallGrid}
+use Rattle.printing.specs.SmallMesh.{meshOf, SmallMesh}
+use Rattle.small.specs.Promise.{headIn, SmallGrid}
 use Rattle.small.proofs.Steps.{RoomsHold, points-few, triangles-few, extract-granted}
 
 module _ (p : Parsed) (samples : List ℕ) (small : SmallGrid p samples) where

@@ -4,6 +4,5 @@ pub mod Few
 pub mod Steps
 pub mod Read
 pub mod Extracted
-pub mod Listed
 pub mod OneAnswer
 pub mod Whole

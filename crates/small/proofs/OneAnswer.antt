@@ -19,7 +19,8 @@ use Rattle.gridtext.specs.GridText.{Small, gridText}
 use Rattle.gridtext.specs.declared.Head.{Head}
 use Rattle.gridtext.proofs.Checks.{passed}
 use Rattle.gridtext.proofs.GridTexts.{grid-read, grid-taken}
-use Rattle.small.specs.Answer.{smoothedMesh, gridEdges, Prints, Answers, printed, refused}
+use Rattle.small.specs.Answer.{smoothedMesh, gridEdges, Answers, printed, refused}
+use Rattle.printing.specs.Prints.{Prints}
 use Rattle.small.specs.Promise.{headIn}
 
 -- a mesh has one text: its shells are numbered in one way

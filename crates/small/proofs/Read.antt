@@ -11,7 +11,8 @@ use Rattle.gridtext.specs.Promise.{left}
 use Rattle.gridtext.specs.declared.Parsed.{Parsed}
 use Rattle.gridtext.proofs.Checks.{passed, rows-few}
 use Rattle.gridtext.proofs.GridTexts.{Taken, grid-taken}
-use Rattle.small.specs.Answer.{smoothedMesh, gridEdges, Prints, parsed, Answers, printed, refused}
+use Rattle.small.specs.Answer.{smoothedMesh, gridEdges, parsed, Answers, printed, refused}
+use Rattle.printing.specs.Prints.{Prints}
 use Rattle.small.specs.Promise.{headIn, SmallGrid}
 
 module _ (input : List ℕ) (p : Parsed) (exit : List ℕ) (e : left p exit ≡ readGrid input (replicate mostSmall 0)) where

@@ -1,21 +1,17 @@
--- Each step of the program is granted, and what it leaves is what is defined.
+-- The extraction of a small grid is granted, and what it leaves is what is defined.
 use mathlib.Core.Path.{_≡_, ap, _∙_}
 use mathlib.Core.List.{List}
 use mathlib.Core.Bool.{true}
-use Prim.Native.Nat.{ℕ, _+_, _*_, _≤_, min}
+use Prim.Native.Nat.{ℕ, _*_, _≤_, min}
 use native.Mathlib.Omega.{arith}
 use lib.ListN.{length}
-use borrow.Author.Tests.{eq-eqb, le-leb, le-ltb}
-use Rattle.grid.specs.Limits.{mostSmall, mostRounds, mostWeight}
+use borrow.Author.Tests.{eq-eqb, le-ltb}
+use Rattle.grid.specs.Limits.{mostSmall}
 use Rattle.grid.specs.Sides.{sidesFit}
 use Rattle.grid.specs.Grid.{Size, axes, isAboveGrey, sampleCount, edgeCount}
 use Rattle.grid.specs.Work.{size}
 use Rattle.extract.specs.Extraction.{Rooms, pointList, triangleList, pointRoom, triangleRoom, granted, measured, extracted}
-use Rattle.mesh.specs.Mesh.{triangleCount, trianglesOf}
-use Rattle.mesh.specs.Check.{meshNumber}
-use Rattle.rounds.specs.Round.{rounds}
-use Rattle.smooth.specs.Smooth.{roomsFit, smoothNumber, smoothed}
-use Rattle.small.specs.Sizes.{mostSmallPoints, mostSmallTriangles}
+use Rattle.printing.specs.Sizes.{mostSmallPoints, mostSmallTriangles}
 use Rattle.small.proofs.Few.{few-points, few-triangles}
 
 -- the rooms that the program lends the extractor
@@ -46,21 +42,3 @@ module _ (nx ny nz grey : ℕ) (samples : List ℕ) (r : Rooms) (fit : sidesFit 
         le-ltb (min 250000 (pointRoom n grey samples r)) (length (pointList n grey samples r)) (omega (arith, points-few, hold .points, hold .edges, hold .marks)),
         le-ltb (min 500000 (triangleRoom n grey samples r)) (length (triangleList n grey samples r)) (omega (arith, triangles-few, hold .triangles)),
       )
-
--- smoothing
-module _ (points triangles marks : List ℕ) (k w : ℕ) (second work : List ℕ) (passes : meshNumber points triangles marks ≡ 0) (few : k ≤ mostRounds) (light : w ≤ mostWeight)
-    (places : length second ≡ 3 * length marks) (room : length work ≡ 6 * triangleCount triangles + 5 * length marks + 1) where
-  number-none : smoothNumber points triangles marks k w second work ≡ 0
-  unfolding smoothNumber roomsFit
-  number-none =
-      rw (
-        passes,
-        le-leb k mostRounds few,
-        le-leb w mostWeight light,
-        eq-eqb (length second) (3 * length marks) places,
-        eq-eqb (length work) (6 * triangleCount triangles + 5 * length marks + 1) room,
-      )
-
-  pub smooth-granted : smoothed points triangles marks k w second work .second ≡ rounds (trianglesOf triangles) marks w k points
-  unfolding smoothed
-  smooth-granted = rw number-none

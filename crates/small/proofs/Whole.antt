@@ -9,8 +9,9 @@ use Rattle.gridtext.specs.GridText.{Small, gridText}
 use Rattle.writing.specs.Writing.{refusalText}
 use Rattle.gridtext.specs.declared.Head.{Head}
 use Rattle.gridtext.proofs.Enough.{enough-read}
-use Rattle.small.specs.Sizes.{mostInput}
-use Rattle.small.specs.Answer.{smoothedMesh, gridEdges, Prints, parsed, Answers, printed, refused}
+use Rattle.printing.specs.Sizes.{mostInput}
+use Rattle.small.specs.Answer.{smoothedMesh, gridEdges, parsed, Answers, printed, refused}
+use Rattle.printing.specs.Prints.{Prints}
 use Rattle.small.proofs.OneAnswer.{grid-of-text, text-of-grid}
 
 module _ (input : List ℕ) where

@@ -1,9 +1,9 @@
 // The program for small grids (document 01): the text of a grid from standard input, the text of its mesh to standard output.
 mod answer;
-mod zeros;
 
 use libc::STDIN_FILENO;
 use libc::STDOUT_FILENO;
+use printing::zeros;
 
 fn main() {
     let mut input = zeros::input();

@@ -9,8 +9,9 @@ use Rattle.extract.specs.Extraction.{Rooms, Outcome}
 use Rattle.extract.specs.Promise.{rooms, left}
 use Rattle.closed.specs.Left.{meshLeft, edgesLeft}
 use Rattle.gridtext.proofs.Checks.{passed}
-use Rattle.small.specs.Sizes.{mostSmallPoints, mostSmallTriangles}
-use Rattle.small.specs.Answer.{gridEdges, afterRounds, smoothedMesh, Prints}
+use Rattle.printing.specs.Sizes.{mostSmallPoints, mostSmallTriangles}
+use Rattle.small.specs.Answer.{gridEdges, smoothedMesh}
+use Rattle.printing.specs.Prints.{afterRounds, Prints}
 use Rattle.small.specs.Promise.{headIn}
 use Rattle.small.proofs.Steps.{RoomsHold}
 use Rattle.small.proofs.Extracted.{smoothing-fits, points-counted, triangles-counted, small-mesh, edges-are, mesh-is}

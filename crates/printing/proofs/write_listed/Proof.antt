@@ -1,4 +1,4 @@
--- `small::answer::write_listed` meets its contract: the shells are listed, and the mesh is written with their records. Assumes nothing.
+-- `printing::write_listed` meets its contract: the shells are listed, and the mesh is written with their records. Assumes nothing.
 use mathlib.Core.Path.{_≡_, sym}
 use Prim.Native.Nat.{_*_}
 use native.Mathlib.Omega.{arith}
@@ -6,9 +6,9 @@ use lib.ListN.{length, take}
 use lib.Seq.{length-take-le}
 use borrow.Author.Needs.{needs}
 use Rattle.shellnumbers.specs.Lists.{left}
-use Rattle.small.proofs.Listed.{Told, told, numbers-many, volumes-many, mesh-printed}
-use Rattle.small.proofs.answer.write_listed.Statement.{statement}
-use Rattle.small.proofs.answer.write_listed.Tie as tie
+use Rattle.printing.proofs.Listed.{Told, told, numbers-many, volumes-many, mesh-printed}
+use Rattle.printing.proofs.write_listed.Statement.{statement}
+use Rattle.printing.proofs.write_listed.Tie as tie
 
 numbers-requires : tie.Need-numbers-requires
 numbers-requires c κs = search needs

@@ -23,8 +23,8 @@ use Rattle.writing.specs.Writing.{outcome}
 use Rattle.meshtext.specs.MeshText.{meshText, listsFit, recordsFit, Holds, meshWritten}
 use Rattle.writing.proofs.Fields.{written-read}
 use Rattle.meshtext.proofs.MeshTexts.{mesh-written}
-use Rattle.small.specs.Answer.{Prints}
-use Rattle.small.specs.Promise.{meshOf, SmallMesh}
+use Rattle.printing.specs.Prints.{Prints}
+use Rattle.printing.specs.SmallMesh.{meshOf, SmallMesh}
 use Rattle.listing.proofs.Handed.{four-each}
 use Rattle.listing.specs.Listing.{mostListed, recordNumbers, numbersHanded, volumesHanded, Listing}
 

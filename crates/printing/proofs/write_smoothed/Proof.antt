@@ -1,4 +1,4 @@
--- `small::answer::write_smoothed` meets its contract: smoothing is granted, and the mesh is written with the smoothed points. Assumes nothing.
+-- `printing::write_smoothed` meets its contract: smoothing is granted, and the mesh is written with the smoothed points. Assumes nothing.
 use mathlib.Core.Path.{_≡_, ap, sym, _∙_, subst}
 use mathlib.Core.List.{List, _++_}
 use Prim.Native.Nat.{ℕ, _+_, _*_, _/_}
@@ -9,11 +9,11 @@ use borrow.Author.Needs.{needs}
 use Rattle.mesh.specs.Mesh.{trianglesOf}
 use Rattle.rounds.specs.Round.{rounds}
 use Rattle.rounds.proofs.Within.{smoothed-passes}
-use Rattle.small.specs.Answer.{afterRounds, Prints}
-use Rattle.small.specs.Promise.{meshOf}
-use Rattle.small.proofs.Steps.{smooth-granted}
-use Rattle.small.proofs.answer.write_smoothed.Statement.{statement}
-use Rattle.small.proofs.answer.write_smoothed.Tie as tie
+use Rattle.printing.specs.Prints.{afterRounds, Prints}
+use Rattle.printing.specs.SmallMesh.{meshOf}
+use Rattle.printing.proofs.Smoothing.{smooth-granted}
+use Rattle.printing.proofs.write_smoothed.Statement.{statement}
+use Rattle.printing.proofs.write_smoothed.Tie as tie
 
 places-requires : tie.Need-places-requires
 places-requires c κs = search needs

@@ -3,7 +3,7 @@
 ghost use mathlib.Core.Path.{_≡_};
 ghost use Prim.Native.Nat.{_+_, _*_};
 ghost use lib.ListN.{length};
-ghost use Rattle.small.specs.Sizes.{mostSmallPoints, mostSmallTriangles, mostInput, mostOutput};
+ghost use Rattle.printing.specs.Sizes.{mostSmallPoints, mostSmallTriangles, mostInput, mostOutput};
 use grid::limits::MOST_SMALL;
 
 // At most three grid edges leave a sample.

@@ -1,0 +1,4 @@
+-- Reading order: the greatest numbers of a small grid, which size the rooms; what is printed of a mesh; a small mesh.
+pub mod Sizes
+pub mod Prints
+pub mod SmallMesh
