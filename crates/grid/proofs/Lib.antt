@@ -7,3 +7,4 @@ pub mod Same
 pub mod Points
 pub mod Edges
 pub mod Sound
+pub mod Empty
