@@ -1,1 +1,3 @@
+-- Every row of the table holds; what document 01 says of the grid of 3×3×3 samples with the centre above.
 pub mod Figures
+pub mod Centre

@@ -6,14 +6,14 @@ pub mod Linked
 pub mod Uniting
 pub mod Numbered
 pub mod Listing
--- The description allows one numbering, so the promise allows one outcome; every point and triangle is counted once; document 01's figures.
+-- The description allows one numbering, so the promise allows one outcome; when all points are one shell; every point and triangle is counted once.
 pub mod OneNumbering
+pub mod OneShell
 pub mod OneOutcome
 pub mod OneNumber
 pub mod Totals
 pub mod Lows
 pub mod Few
-pub mod Figures
 -- How large volumes are; records that grow become those of the shells; how the call ends.
 pub mod Sizes
 pub mod Making
