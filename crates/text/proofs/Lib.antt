@@ -1,4 +1,5 @@
 -- Reading what was written gives it back, and the other way round; reading at a place of an input.
+pub mod Quoted
 pub mod Digits
 pub mod Places
 pub mod Lines
