@@ -1,7 +1,6 @@
 -- Of the 256 cases, 2 give no triangle, 16 give one, 50 two, 80 three, 76 four, 32 five: 820 in all.
 use mathlib.Core.Path.{_≡_, refl}
-use mathlib.Core.List.{List, [], _∷_, map, flatMap}
-use Prim.Native.Nat.{ℕ}
+use mathlib.Core.List.{[], _∷_, map, flatMap}
 use lib.Dec.{eqb}
 use Rattle.laws.specs.Range.{countTo, sumTo}
 use Rattle.laws.specs.Bits.{bit}
