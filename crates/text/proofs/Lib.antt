@@ -1,4 +1,4 @@
--- Reading what was written gives it back, and the other way round; reading at a place of an input.
+-- Reading what was written gives it back, and the other way round; reading at a place of an input; the first malformed line.
 pub mod Quoted
 pub mod Digits
 pub mod Places
@@ -8,6 +8,8 @@ pub mod Checks
 pub mod Enough
 pub mod Texts
 pub mod GridTexts
+pub mod FirstMalformed
+pub mod LineFeeds
 pub mod Examples
 pub mod Outcomes
 pub mod Written
