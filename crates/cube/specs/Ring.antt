@@ -72,5 +72,5 @@ pub record GoesRound (axis at : ℕ) (ring : List ℕ) : Type 0 where
   pub corners : map (cornerAlong axis) ring ≡ replicate 4 at
   -- each side is an edge of the cube: its squared length is 1
   pub edges : map squared (sidesOf ring) ≡ replicate 4 (pos 1)
-  -- at each corner it turns left as seen from outside: the cross product of the two sides is the outward normal
+  -- at each corner it turns left as seen from outside: the cross product of the side that comes and the side that leaves is the outward normal, by the right hand
   pub turns : turnsOf (sidesOf ring) ≡ replicate 4 (outward axis at)

@@ -1,4 +1,4 @@
--- What later floors cite about samples, edges and places.
+-- What later floors cite about samples, edges and places; and the empty mesh of grey value 0.
 pub mod Digits
 pub mod Sides
 pub mod Sites
