@@ -1,7 +1,6 @@
--- Of the 256 cases, 2 give no triangle, 16 give one, 50 two, 80 three, 76 four, 32 five.
+-- Of the 256 cases, 2 give no triangle, 16 give one, 50 two, 80 three, 76 four, 32 five: 820 in all.
 use mathlib.Core.Path.{_≡_, refl}
-use mathlib.Core.List.{List, [], _∷_, map, flatMap}
-use Prim.Native.Nat.{ℕ}
+use mathlib.Core.List.{[], _∷_, map, flatMap}
 use lib.Dec.{eqb}
 use Rattle.laws.specs.Range.{countTo, sumTo}
 use Rattle.laws.specs.Bits.{bit}
@@ -13,3 +12,7 @@ use Rattle.cube.specs.Answer.{segments, triangles, count}
 pub classes : map (λ n. countTo 256 (λ k. eqb (count k) n)) (0 ∷ 1 ∷ 2 ∷ 3 ∷ 4 ∷ 5 ∷ []) ≡ 2 ∷ 16 ∷ 50 ∷ 80 ∷ 76 ∷ 32 ∷ []
 unfolding countTo sumTo count triangles flatMap fan loops segments segmentsOf faceSegments cuts wayRound isAbove bit
 classes = refl
+
+pub in-all : sumTo 256 count ≡ 820
+unfolding sumTo count triangles flatMap fan loops segments segmentsOf faceSegments cuts wayRound isAbove bit
+in-all = refl

@@ -4,5 +4,6 @@ pub mod Way
 pub mod Turned
 pub mod Cases
 pub mod Classes
+pub mod Rings
 pub mod Places
 pub mod OneCase

@@ -20,43 +20,41 @@ use Rattle.meshtext.specs.MeshText.{pointsText, trianglesText, shellText, shell
 use Rattle.gridtext.specs.Grid.{headOf, readHead, smoothingFits, headNumber, refused, granted, withRows, withHead, readGrid}
 use Rattle.gridtext.specs.GridText.{row, rowsText, headText, gridText}
 use Rattle.gridtext.specs.declared.Head.{Head}
+use Rattle.lines.proofs.Quoted.{bytes}
 
--- `G 2 2 2 50 0 0`, and the four rows, with tabs
-exampleHead : List ℕ
-exampleHead = 71 ∷ 9 ∷ 50 ∷ 9 ∷ 50 ∷ 9 ∷ 50 ∷ 9 ∷ 53 ∷ 48 ∷ 9 ∷ 48 ∷ 9 ∷ 48 ∷ 10 ∷ []
+-- the input of the example, whole
+unfoldable pub exampleInput : List ℕ
+exampleInput = bytes "G\t2\t2\t2\t50\t0\t0\n100\t0\n0\t0\n0\t0\n0\t0\n"
 
-exampleRows : List ℕ
-exampleRows = 49 ∷ 48 ∷ 48 ∷ 9 ∷ 48 ∷ 10 ∷ 48 ∷ 9 ∷ 48 ∷ 10 ∷ 48 ∷ 9 ∷ 48 ∷ 10 ∷ 48 ∷ 9 ∷ 48 ∷ 10 ∷ []
-
-exampleNumbers : Head
+unfoldable pub exampleNumbers : Head
 exampleNumbers = record { nx = 2; ny = 2; nz = 2; grey = 50; rounds = 0; weight = 0 }
 
-exampleSamples : List ℕ
+unfoldable pub exampleSamples : List ℕ
 exampleSamples = 100 ∷ replicate 7 0
 
 -- it is read, and the rest of the room stays
-example-read : readGrid (exampleHead ++ exampleRows) (replicate 10 7) ≡ granted exampleNumbers exampleSamples (replicate 10 7)
-unfolding exampleHead exampleRows exampleNumbers exampleSamples isDigit after digitsOn readNumber endedBy readField endOf readRow ahead lineThen readRows headOf readHead sideFits sidesFit smoothingFits headNumber refused granted withRows withHead readGrid laid
+example-read : readGrid exampleInput (replicate 10 7) ≡ granted exampleNumbers exampleSamples (replicate 10 7)
+unfolding bytes exampleInput exampleNumbers exampleSamples isDigit after digitsOn readNumber endedBy readField endOf readRow ahead lineThen readRows headOf readHead sideFits sidesFit smoothingFits headNumber refused granted withRows withHead readGrid laid
 example-read = refl
 
-example-text : gridText exampleNumbers exampleSamples ≡ exampleHead ++ exampleRows
-unfolding exampleHead exampleRows exampleNumbers exampleSamples decimalTo decimal endOf line joinTo site row rowsText headText gridText
+pub example-text : gridText exampleNumbers exampleSamples ≡ exampleInput
+unfolding bytes exampleInput exampleNumbers exampleSamples decimalTo decimal endOf line joinTo site row rowsText headText gridText
 example-text = refl
 
 -- the output of the example, whole, and a shell of negative volume
-exampleOutput : List ℕ
-exampleOutput = 77 ∷ 9 ∷ 51 ∷ 9 ∷ 49 ∷ 9 ∷ 49 ∷ 10 ∷ 86 ∷ 9 ∷ 48 ∷ 9 ∷ 49 ∷ 50 ∷ 56 ∷ 9 ∷ 48 ∷ 9 ∷ 48 ∷ 9 ∷ 49 ∷ 10 ∷ 86 ∷ 9 ∷ 49 ∷ 9 ∷ 48 ∷ 9 ∷ 49 ∷ 50 ∷ 56 ∷ 9 ∷ 48 ∷ 9 ∷ 49 ∷ 10 ∷ 86 ∷ 9 ∷ 50 ∷ 9 ∷ 48 ∷ 9 ∷ 48 ∷ 9 ∷ 49 ∷ 50 ∷ 56 ∷ 9 ∷ 49 ∷ 10 ∷ 84 ∷ 9 ∷ 48 ∷ 9 ∷ 49 ∷ 9 ∷ 50 ∷ 10 ∷ 83 ∷ 9 ∷ 48 ∷ 9 ∷ 51 ∷ 9 ∷ 49 ∷ 9 ∷ 49 ∷ 9 ∷ 50 ∷ 48 ∷ 57 ∷ 55 ∷ 49 ∷ 53 ∷ 50 ∷ 10 ∷ []
+unfoldable pub exampleOutput : List ℕ
+exampleOutput = bytes "M\t3\t1\t1\nV\t0\t128\t0\t0\t1\nV\t1\t0\t128\t0\t1\nV\t2\t0\t0\t128\t1\nT\t0\t1\t2\nS\t0\t3\t1\t1\t2097152\n"
 
-example-output : meshText (128 ∷ 0 ∷ 0 ∷ 0 ∷ 128 ∷ 0 ∷ 0 ∷ 0 ∷ 128 ∷ []) (0 ∷ 1 ∷ 2 ∷ []) (1 ∷ 1 ∷ 1 ∷ []) (0 ∷ 1 ∷ 2 ∷ []) (0 ∷ 3 ∷ 1 ∷ 1 ∷ []) (pos 2097152 ∷ []) ≡ exampleOutput
-unfolding exampleOutput decimalTo decimal signed endOf line fields lettered joinTo pointsText trianglesText shellText shellsText linesOf
+pub example-output : meshText (128 ∷ 0 ∷ 0 ∷ 0 ∷ 128 ∷ 0 ∷ 0 ∷ 0 ∷ 128 ∷ []) (0 ∷ 1 ∷ 2 ∷ []) (1 ∷ 1 ∷ 1 ∷ []) (0 ∷ 1 ∷ 2 ∷ []) (0 ∷ 3 ∷ 1 ∷ 1 ∷ []) (pos 2097152 ∷ []) ≡ exampleOutput
+unfolding bytes exampleOutput decimalTo decimal signed endOf line fields lettered joinTo pointsText trianglesText shellText shellsText linesOf
 example-output = refl
 
-negative-shell : shellText (4 ∷ 5 ∷ 6 ∷ 0 ∷ []) (negsuc 99) ≡ 83 ∷ 9 ∷ 52 ∷ 9 ∷ 53 ∷ 9 ∷ 54 ∷ 9 ∷ 48 ∷ 9 ∷ 45 ∷ 49 ∷ 48 ∷ 48 ∷ 10 ∷ []
-unfolding decimalTo decimal signed endOf fields shellText
+negative-shell : shellText (4 ∷ 5 ∷ 6 ∷ 0 ∷ []) (negsuc 99) ≡ bytes "S\t4\t5\t6\t0\t-100\n"
+unfolding bytes decimalTo decimal signed endOf fields shellText
 negative-shell = refl
 
-refusal-line : refusalText 12 5 ≡ 82 ∷ 9 ∷ 49 ∷ 50 ∷ 9 ∷ 53 ∷ 10 ∷ []
-unfolding decimalTo decimal endOf line lettered refusalText
+refusal-line : refusalText 12 5 ≡ bytes "R\t12\t5\n"
+unfolding bytes decimalTo decimal endOf line lettered refusalText
 refusal-line = refl
 
 -- a text, and the number and line of its refusal in a room of ten
@@ -73,46 +71,50 @@ isRefused r =
     let o = readGrid (r .text) (replicate 10 7) in
     eqb (o .answer .number) (r .number) && (eqb (o .answer .line) (r .at) && eqb (length (o .samples)) 10)
 
+-- line 1 of the example
+exampleHead : List ℕ
+exampleHead = bytes "G\t2\t2\t2\t50\t0\t0\n"
+
 refusals : List Refused
 refusals =
     -- empty
-    case ([]) 12 1 ∷
+    case [] 12 1 ∷
     -- no final LF
-    case (exampleHead ++ 49 ∷ 48 ∷ 48 ∷ 9 ∷ 48 ∷ 10 ∷ 48 ∷ 9 ∷ 48 ∷ 10 ∷ 48 ∷ 9 ∷ 48 ∷ 10 ∷ 48 ∷ 9 ∷ 48 ∷ []) 12 5 ∷
+    case (exampleHead ++ bytes "100\t0\n0\t0\n0\t0\n0\t0") 12 5 ∷
     -- CR LF
-    case (71 ∷ 9 ∷ 50 ∷ 9 ∷ 50 ∷ 9 ∷ 50 ∷ 9 ∷ 53 ∷ 48 ∷ 9 ∷ 48 ∷ 9 ∷ 48 ∷ 13 ∷ 10 ∷ 49 ∷ 48 ∷ 48 ∷ 9 ∷ 48 ∷ 10 ∷ 48 ∷ 9 ∷ 48 ∷ 10 ∷ 48 ∷ 9 ∷ 48 ∷ 10 ∷ 48 ∷ 9 ∷ 48 ∷ 10 ∷ []) 12 1 ∷
+    case (bytes "G\t2\t2\t2\t50\t0\t0\r\n100\t0\n0\t0\n0\t0\n0\t0\n") 12 1 ∷
     -- a NUL
-    case (0 ∷ 71 ∷ 9 ∷ 50 ∷ 9 ∷ 50 ∷ 9 ∷ 50 ∷ 9 ∷ 53 ∷ 48 ∷ 9 ∷ 48 ∷ 9 ∷ 48 ∷ 10 ∷ 49 ∷ 48 ∷ 48 ∷ 9 ∷ 48 ∷ 10 ∷ 48 ∷ 9 ∷ 48 ∷ 10 ∷ 48 ∷ 9 ∷ 48 ∷ 10 ∷ 48 ∷ 9 ∷ 48 ∷ 10 ∷ []) 12 1 ∷
+    case (bytes "\0G\t2\t2\t2\t50\t0\t0\n100\t0\n0\t0\n0\t0\n0\t0\n") 12 1 ∷
     -- tabs
-    case (9 ∷ 9 ∷ 9 ∷ 9 ∷ 9 ∷ 9 ∷ 9 ∷ 9 ∷ 9 ∷ 9 ∷ 9 ∷ 9 ∷ 9 ∷ 9 ∷ 9 ∷ 9 ∷ 9 ∷ 9 ∷ 9 ∷ 9 ∷ 9 ∷ 9 ∷ 9 ∷ 9 ∷ 9 ∷ 9 ∷ 9 ∷ 9 ∷ 9 ∷ 9 ∷ 9 ∷ 9 ∷ 9 ∷ 9 ∷ 9 ∷ 9 ∷ 9 ∷ 9 ∷ 9 ∷ 9 ∷ []) 12 1 ∷
+    case (bytes "\t\t\t\t\t\t\t\t\t\t\t\t\t\t\t\t\t\t\t\t\t\t\t\t\t\t\t\t\t\t\t\t\t\t\t\t\t\t\t\t") 12 1 ∷
     -- a missing line
-    case (exampleHead ++ 49 ∷ 48 ∷ 48 ∷ 9 ∷ 48 ∷ 10 ∷ 48 ∷ 9 ∷ 48 ∷ 10 ∷ 48 ∷ 9 ∷ 48 ∷ 10 ∷ []) 12 5 ∷
+    case (exampleHead ++ bytes "100\t0\n0\t0\n0\t0\n") 12 5 ∷
     -- bytes after the last row
-    case (exampleHead ++ 49 ∷ 48 ∷ 48 ∷ 9 ∷ 48 ∷ 10 ∷ 48 ∷ 9 ∷ 48 ∷ 10 ∷ 48 ∷ 9 ∷ 48 ∷ 10 ∷ 48 ∷ 9 ∷ 48 ∷ 10 ∷ 10 ∷ []) 12 6 ∷
+    case (exampleHead ++ bytes "100\t0\n0\t0\n0\t0\n0\t0\n\n") 12 6 ∷
     -- a needless zero
-    case (exampleHead ++ 48 ∷ 49 ∷ 48 ∷ 48 ∷ 9 ∷ 48 ∷ 10 ∷ 48 ∷ 9 ∷ 48 ∷ 10 ∷ 48 ∷ 9 ∷ 48 ∷ 10 ∷ 48 ∷ 9 ∷ 48 ∷ 10 ∷ []) 12 2 ∷
+    case (exampleHead ++ bytes "0100\t0\n0\t0\n0\t0\n0\t0\n") 12 2 ∷
     -- a sign
-    case (exampleHead ++ 43 ∷ 49 ∷ 48 ∷ 48 ∷ 9 ∷ 48 ∷ 10 ∷ 48 ∷ 9 ∷ 48 ∷ 10 ∷ 48 ∷ 9 ∷ 48 ∷ 10 ∷ 48 ∷ 9 ∷ 48 ∷ 10 ∷ []) 12 2 ∷
+    case (exampleHead ++ bytes "+100\t0\n0\t0\n0\t0\n0\t0\n") 12 2 ∷
     -- 65,536
-    case (exampleHead ++ 54 ∷ 53 ∷ 53 ∷ 51 ∷ 54 ∷ 9 ∷ 48 ∷ 10 ∷ 48 ∷ 9 ∷ 48 ∷ 10 ∷ 48 ∷ 9 ∷ 48 ∷ 10 ∷ 48 ∷ 9 ∷ 48 ∷ 10 ∷ []) 12 2 ∷
+    case (exampleHead ++ bytes "65536\t0\n0\t0\n0\t0\n0\t0\n") 12 2 ∷
     -- a number of 30 digits
-    case (exampleHead ++ 49 ∷ 49 ∷ 49 ∷ 49 ∷ 49 ∷ 49 ∷ 49 ∷ 49 ∷ 49 ∷ 49 ∷ 49 ∷ 49 ∷ 49 ∷ 49 ∷ 49 ∷ 49 ∷ 49 ∷ 49 ∷ 49 ∷ 49 ∷ 49 ∷ 49 ∷ 49 ∷ 49 ∷ 49 ∷ 49 ∷ 49 ∷ 49 ∷ 49 ∷ 49 ∷ 9 ∷ 48 ∷ 10 ∷ 48 ∷ 9 ∷ 48 ∷ 10 ∷ 48 ∷ 9 ∷ 48 ∷ 10 ∷ 48 ∷ 9 ∷ 48 ∷ 10 ∷ []) 12 2 ∷
+    case (exampleHead ++ bytes "111111111111111111111111111111\t0\n0\t0\n0\t0\n0\t0\n") 12 2 ∷
     -- 65,536 in line 1
-    case (71 ∷ 9 ∷ 50 ∷ 9 ∷ 50 ∷ 9 ∷ 50 ∷ 9 ∷ 54 ∷ 53 ∷ 53 ∷ 51 ∷ 54 ∷ 9 ∷ 48 ∷ 9 ∷ 48 ∷ 10 ∷ 49 ∷ 48 ∷ 48 ∷ 9 ∷ 48 ∷ 10 ∷ 48 ∷ 9 ∷ 48 ∷ 10 ∷ 48 ∷ 9 ∷ 48 ∷ 10 ∷ 48 ∷ 9 ∷ 48 ∷ 10 ∷ []) 12 1 ∷
+    case (bytes "G\t2\t2\t2\t65536\t0\t0\n100\t0\n0\t0\n0\t0\n0\t0\n") 12 1 ∷
     -- side 1
-    case (71 ∷ 9 ∷ 49 ∷ 9 ∷ 50 ∷ 9 ∷ 50 ∷ 9 ∷ 53 ∷ 48 ∷ 9 ∷ 48 ∷ 9 ∷ 48 ∷ 10 ∷ []) 1 0 ∷
+    case (bytes "G\t1\t2\t2\t50\t0\t0\n") 1 0 ∷
     -- side 65
-    case (71 ∷ 9 ∷ 50 ∷ 9 ∷ 50 ∷ 9 ∷ 54 ∷ 53 ∷ 9 ∷ 53 ∷ 48 ∷ 9 ∷ 49 ∷ 48 ∷ 49 ∷ 9 ∷ 48 ∷ 10 ∷ []) 1 0 ∷
+    case (bytes "G\t2\t2\t65\t50\t101\t0\n") 1 0 ∷
     -- 516 samples and 101 rounds
-    case (71 ∷ 9 ∷ 50 ∷ 9 ∷ 54 ∷ 9 ∷ 52 ∷ 51 ∷ 9 ∷ 53 ∷ 48 ∷ 9 ∷ 49 ∷ 48 ∷ 49 ∷ 9 ∷ 48 ∷ 10 ∷ []) 13 0 ∷
+    case (bytes "G\t2\t6\t43\t50\t101\t0\n") 13 0 ∷
     -- 101 rounds
-    case (71 ∷ 9 ∷ 50 ∷ 9 ∷ 50 ∷ 9 ∷ 50 ∷ 9 ∷ 53 ∷ 48 ∷ 9 ∷ 49 ∷ 48 ∷ 49 ∷ 9 ∷ 48 ∷ 10 ∷ []) 10 0 ∷
+    case (bytes "G\t2\t2\t2\t50\t101\t0\n") 10 0 ∷
     -- weight 257
-    case (71 ∷ 9 ∷ 50 ∷ 9 ∷ 50 ∷ 9 ∷ 50 ∷ 9 ∷ 53 ∷ 48 ∷ 9 ∷ 48 ∷ 9 ∷ 50 ∷ 53 ∷ 55 ∷ 10 ∷ []) 10 0 ∷
+    case (bytes "G\t2\t2\t2\t50\t0\t257\n") 10 0 ∷
     -- twelve samples in a room of ten
-    case (71 ∷ 9 ∷ 50 ∷ 9 ∷ 50 ∷ 9 ∷ 51 ∷ 9 ∷ 53 ∷ 48 ∷ 9 ∷ 48 ∷ 9 ∷ 48 ∷ 10 ∷ []) 3 0 ∷
+    case (bytes "G\t2\t2\t3\t50\t0\t0\n") 3 0 ∷
     []
 
 refusals-hold : allOf isRefused refusals ≡ true
-unfolding exampleHead isRefused refusals allOf isDigit after digitsOn readNumber endedBy readField endOf readRow ahead lineThen readRows headOf readHead sideFits sidesFit smoothingFits headNumber refused granted withRows withHead readGrid laid
+unfolding bytes exampleHead isRefused refusals allOf isDigit after digitsOn readNumber endedBy readField endOf readRow ahead lineThen readRows headOf readHead sideFits sidesFit smoothingFits headNumber refused granted withRows withHead readGrid laid
 refusals-hold = refl

@@ -9,11 +9,7 @@ use Rattle.cube.specs.Face.{cuts, wayRound, faceSegments, segmentsOf}
 use Rattle.cube.specs.Loop.{loops, fan}
 use Rattle.cube.specs.Answer.{segments, triangles}
 use Rattle.grid.specs.Point.{offset}
-use Rattle.laws.specs.Range.{keepTo, joinTo}
-use Rattle.laws.specs.Order.{isIn}
-use Rattle.laws.specs.Mesh.{sides, sameArrow}
-use Rattle.mesh.specs.Neighbours.{neighbours, shareSide}
-use Rattle.rounds.specs.Round.{moved, movedIf, round}
+use Rattle.rounds.specs.Round.{moved}
 use lib.Count.{trailingZeros}
 use lib.Ieee.{ofInt, div, add, mul, sum, round as rounded, units, odd, size, span, climb}
 use Rattle.root.specs.Root.{scaleOf, firstScale, rootOf, rootBelow, nextRoot}
@@ -23,5 +19,5 @@ use Rattle.measures.specs.Corners.{dotsOf, squaresOf, doubleArea, cotangents, a
 use Rattle.figures.specs.Figure.{Holds, figures}
 
 pub figures-hold : All Holds figures
-unfolding triangles flatMap fan loops segments segmentsOf faceSegments cuts wayRound isAbove bit offset nearest moved sumOf round movedIf neighbours shareSide sides isIn sameArrow keepTo joinTo scaleOf firstScale rootOf rootBelow nextRoot between dot cross squared dotAt oppositeAt crossAt negative dotsOf squaresOf doubleArea cotangents acuteShare acuteShares shares ofInt div add mul sum rounded units odd size span climb trailingZeros
-figures-hold = (refl, (refl, (refl, (refl, (refl, (refl, (refl, (refl, (refl, (refl, (refl, (refl, (refl, (refl, (refl, tt)))))))))))))))
+unfolding triangles flatMap fan loops segments segmentsOf faceSegments cuts wayRound isAbove bit offset nearest moved sumOf scaleOf firstScale rootOf rootBelow nextRoot between dot cross squared dotAt oppositeAt crossAt negative dotsOf squaresOf doubleArea cotangents acuteShare acuteShares shares ofInt div add mul sum rounded units odd size span climb trailingZeros
+figures-hold = (refl, (refl, (refl, (refl, (refl, (refl, (refl, (refl, (refl, (refl, (refl, (refl, (refl, (refl, tt))))))))))))))

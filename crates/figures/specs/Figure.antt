@@ -1,13 +1,13 @@
--- Document 01, "Figures to hold it against": the rows marked P and the round of the 3×3×3 grid, and what a row says of the definitions.
+-- Document 01, "Figures to hold it against": the rows marked P, and what a row says of the definitions.
 use mathlib.Core.Path.{_≡_}
 use mathlib.Core.List.{List, [], _∷_}
 use Prim.Native.Nat.{ℕ}
 use Rattle.laws.specs.Mesh.{Triangle, triangle}
 use Rattle.cube.specs.Answer.{triangles}
-use lib.ListN.{length, replicate}
+use lib.ListN.{length}
 use Rattle.laws.specs.Sum.{sumOf}
 use Rattle.grid.specs.Point.{offset}
-use Rattle.rounds.specs.Round.{moved, round}
+use Rattle.rounds.specs.Round.{moved}
 use lib.IntN.{pos}
 use lib.Ieee.{Float}
 use Rattle.root.specs.Root.{scaleOf}
@@ -40,8 +40,6 @@ pub data Figure : Type 0 where
   offsetIs : ℕ → ℕ → ℕ → ℕ → Figure
   -- a coordinate with neighbours at these moves to this by this weight
   movesTo : ℕ → List ℕ → ℕ → ℕ → Figure
-  -- a mesh after one round of a weight stands at these places
-  roundGives : List Triangle → List ℕ → List ℕ → ℕ → List ℕ → Figure
   -- a triangle at these coordinates has this s, this D and these three shares, all whole numbers
   triangleHas : List ℕ → ℕ → ℕ → ℕ → ℕ → ℕ → Figure
 
@@ -49,19 +47,9 @@ abbrev pub Holds : Figure → Type 0
 Holds (caseHas k ts) = triangles k ≡ ts
 Holds (offsetIs v0 v1 grey o) = offset v0 v1 grey ≡ o
 Holds (movesTo p ns w to) = moved w (length ns) p (sumOf (λ n. n) ns) ≡ to
-Holds (roundGives ts marks points w places) = round ts marks w points ≡ places
 Holds (triangleHas points s double a b c) =
     partsOf points
     ≡ record { scale = s; double = whole (pos double); share = corners (whole (pos a)) (whole (pos b)) (whole (pos c)) }
-
--- the mesh of 3×3×3 samples, the centre 100 and the others 0, at grey value 50
-abbrev octahedron : List Triangle
-octahedron =
-    triangle 2 0 1 ∷ triangle 3 1 0 ∷ triangle 2 4 0 ∷ triangle 3 0 4 ∷ triangle 2 1 5 ∷ triangle 3 5 1 ∷ triangle 2 5 4 ∷ triangle 3 4 5 ∷ []
-
-abbrev octahedronPoints : List ℕ
-octahedronPoints =
-    256 ∷ 256 ∷ 128 ∷ 256 ∷ 128 ∷ 256 ∷ 128 ∷ 256 ∷ 256 ∷ 384 ∷ 256 ∷ 256 ∷ 256 ∷ 384 ∷ 256 ∷ 256 ∷ 256 ∷ 384 ∷ []
 
 abbrev pub figures : List Figure
 figures =
@@ -79,5 +67,4 @@ figures =
     ∷ movesTo 10 (20 ∷ 21 ∷ 21 ∷ []) 256 21
     ∷ movesTo 10 (20 ∷ 21 ∷ 21 ∷ []) 128 15
     ∷ triangleHas (0 ∷ 0 ∷ 0 ∷ 256 ∷ 0 ∷ 0 ∷ 0 ∷ 256 ∷ 0 ∷ []) 13 65536 16384 8192 8192
-    ∷ roundGives octahedron (replicate 6 0) octahedronPoints 256 (replicate 18 256)
     ∷ []

@@ -1,1 +1,1 @@
-// Document 01's figures marked P: see specs/ and proofs/. There is no code.
+// Document 01's figures, proved of the definitions: see specs/ and proofs/. There is no code.

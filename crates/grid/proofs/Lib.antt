@@ -1,4 +1,4 @@
--- What later floors cite about samples, edges and places.
+-- What later floors cite about samples, edges and places; and the empty mesh of grey value 0.
 pub mod Sides
 pub mod Sites
 pub mod Crossings
@@ -6,3 +6,4 @@ pub mod Same
 pub mod Points
 pub mod Edges
 pub mod Sound
+pub mod Empty

@@ -1,7 +1,6 @@
--- The promise allows one outcome; there are no more shells than points; document 01's figures.
+-- The promise allows one outcome; there are no more shells than points.
 pub mod OneShellList
 pub mod Few
-pub mod Figures
 -- Records that grow become those of the shells; how the call ends.
 pub mod Growing
 pub mod Made

@@ -1,0 +1,58 @@
+-- Document 01, "Figures to hold it against": the grid of 3×3×3 samples, the centre 100 and the others 0, at grey value 50.
+use mathlib.Core.Path.{_≡_}
+use mathlib.Core.List.{List, [], _∷_, _++_, map, flatMap}
+use Prim.Native.Nat.{ℕ}
+use lib.IntN.{pos}
+use lib.ListN.{length, replicate}
+use Rattle.laws.specs.Values.{listTo}
+use Rattle.laws.specs.Mesh.{triangle, flat}
+use Rattle.grid.specs.Grid.{Size, axes, isAboveGrey, mark}
+use Rattle.grid.specs.Point.{pointEdges, place}
+use Rattle.grid.specs.Mesh.{mesh}
+use Rattle.mesh.specs.Mesh.{triangleCount, triangleAt, trianglesOf}
+use Rattle.rounds.specs.Round.{rounds}
+use Rattle.shellnumbers.specs.Numbering.{Numbering}
+use Rattle.records.specs.Record.{recordOf}
+use Rattle.curvature.specs.declared.answers.Answer.the-variants.{Flat}
+use Rattle.curvature.specs.Curved.{answerFor}
+
+abbrev pub size : Size
+size = record { nx = 3; ny = 3; nz = 3 }
+
+-- sample (1, 1, 1) stands at 13
+abbrev pub samples : List ℕ
+samples = replicate 13 0 ++ 100 ∷ replicate 13 0
+
+abbrev pub grey : ℕ
+grey = 50
+
+-- its mesh, by the definitions: the grid edges of its points, their places and marks, and its triangles
+unfoldable pub edges : List ℕ
+edges = pointEdges axes size (isAboveGrey grey samples)
+
+unfoldable pub points : List ℕ
+points = flatMap (place axes size grey samples) edges
+
+unfoldable pub marks : List ℕ
+marks = map (mark axes size) edges
+
+unfoldable pub triangles : List ℕ
+triangles = flat (mesh size (isAboveGrey grey samples))
+
+-- the points after one round of weight 256
+unfoldable pub smoothed : List ℕ
+smoothed = rounds (trianglesOf triangles) marks 256 1 points
+
+-- what document 01 says of it
+pub record CentreFigure : Type 0 where
+  pub grid-edges : edges ≡ 14 ∷ 31 ∷ 36 ∷ 39 ∷ 40 ∷ 41 ∷ []
+  pub places : points ≡ 256 ∷ 256 ∷ 128 ∷ 256 ∷ 128 ∷ 256 ∷ 128 ∷ 256 ∷ 256 ∷ 384 ∷ 256 ∷ 256 ∷ 256 ∷ 384 ∷ 256 ∷ 256 ∷ 256 ∷ 384 ∷ []
+  pub inside : marks ≡ replicate 6 0
+  pub eight : triangleCount triangles ≡ 8
+  pub first : triangleAt triangles 0 ≡ triangle 2 0 1
+  -- every point has shell number 0, and there is one shell; it touches nothing
+  pub one-shell : Numbering (trianglesOf triangles) (length marks) (replicate 6 0) 1
+  pub volume : recordOf points triangles marks (replicate 6 0) 0 ≡ record { low = 0; points = 6; triangles = 8; touches = 0; volume = pos 16777216 }
+  -- one round of weight 256
+  pub one-place : smoothed ≡ replicate 18 256
+  pub all-flat : listTo 6 (answerFor smoothed triangles marks) ≡ replicate 6 Flat
