@@ -11,7 +11,7 @@ use Rattle.laws.specs.Mesh.{Arrow, Triangle, triangle, sides, flat}
 use Rattle.laws.proofs.Tests.{all-holds}
 use Rattle.laws.proofs.Ranges.{length-flat}
 use Rattle.laws.proofs.Lists.{all-get, all-of-places, all-flat}
-use Rattle.laws.proofs.Sums.{all-append, all-map, all-weaken}
+use Rattle.laws.proofs.Sums.{all-map, all-weaken}
 use Rattle.laws.proofs.Sides.{length-corners}
 use Rattle.grid.specs.Limits.{mostSide, mostPoints, mostTriangles, mostCoordinate}
 use Rattle.grid.specs.Grid.{axes, isAboveGrey, mark, side}

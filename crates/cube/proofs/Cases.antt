@@ -1,7 +1,7 @@
 -- What holds in every case: each law is one test that is computed over all 256, and the law at a case.
-use mathlib.Core.Path.{_≡_, refl, ap, sym, _∙_}
-use mathlib.Core.List.{List, [], _∷_, _++_, map, flatMap}
-use mathlib.Core.Bool.{Bool, true, false, not, _&&_, xor}
+use mathlib.Core.Path.{_≡_, refl}
+use mathlib.Core.List.{List, _++_, map, flatMap}
+use mathlib.Core.Bool.{Bool, true, not, _&&_, xor}
 use Prim.Native.Nat.{ℕ, _+_, _<_}
 use native.Mathlib.Omega.{arith}
 use lib.Dec.{eqb, ltb}
@@ -10,7 +10,7 @@ use Rattle.laws.specs.Range.{one-if, allTo}
 use Rattle.laws.specs.Sum.{sumOf, allOf, All}
 use Rattle.laws.specs.Order.{rearranged, isIn, without}
 use Rattle.laws.specs.Bits.{bit}
-use Rattle.laws.specs.Mesh.{Arrow, flip, sameArrow, Triangle, sides, total}
+use Rattle.laws.specs.Mesh.{Arrow, flip, sameArrow, sides, total}
 use Rattle.laws.proofs.Tests.{both, all-at, all-of}
 use Rattle.laws.proofs.Sides.{total-append, total-flip, total-rearranged}
 use Rattle.cube.specs.Cube.{isAbove, crossed, edgeBetween, lowCorner, highCorner}

@@ -6,7 +6,6 @@ use Prim.Native.Nat.{ℕ, zero, suc, _<_}
 use native.Mathlib.Omega.{arith}
 use lib.Dec.{lit<}
 use lib.ListN.{getD}
-use Rattle.laws.specs.Bits.{bits, bit}
 use Rattle.laws.proofs.Binary.{bits-small, bit-of-bits}
 use Rattle.cube.specs.Cube.{caseOf, isAbove, edgeBetween}
 use Rattle.cube.specs.Face.{wayRound, faceSegments, segmentsOf}

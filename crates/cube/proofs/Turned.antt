@@ -4,12 +4,10 @@ use mathlib.Core.Path.{_≡_, refl, ap, sym, _∙_}
 use mathlib.Core.List.{List, [], _∷_, map, reverse}
 use mathlib.Core.Bool.{Bool, true, false}
 use Prim.Native.Nat.{ℕ}
-use lib.Dec.{eqb}
-use lib.ListN.{length, getD}
-use Rattle.laws.specs.Sum.{sumOf}
+use lib.ListN.{getD}
 use Rattle.laws.specs.Order.{rearranged, isIn, without}
 use Rattle.laws.specs.Bits.{allRows}
-use Rattle.laws.specs.Mesh.{Arrow, flip, sameArrow, total}
+use Rattle.laws.specs.Mesh.{flip, sameArrow, total}
 use Rattle.laws.proofs.Tests.{row-at}
 use Rattle.laws.proofs.Sums.{sum-map}
 use Rattle.laws.proofs.Sides.{total-rearranged, total-flip}

@@ -1,5 +1,5 @@
 -- The face rule, for a way round any face: edges may be renamed before or after, and both ends of a segment are crossed edges of the face.
-use mathlib.Core.Path.{_≡_, refl, ap, ap₂, sym, _∙_}
+use mathlib.Core.Path.{_≡_, refl}
 use mathlib.Core.List.{List, [], _∷_, _++_, map, map-append, List·Memᴰ}
 use mathlib.Core.Bool.{Bool, true, false, cond, not, _&&_, xor, false≢true}
 use Prim.Native.Nat.{ℕ}

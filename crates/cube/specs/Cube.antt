@@ -1,4 +1,4 @@
--- The numbers of a cube's corners, edges and cases (document 01, "One cube", first paragraph). docs/cube.txt has the drawing.
+-- The numbers of a cube's corners, edges and cases (document 01, "One cube", first paragraph). docs/CUBE.md has the drawing.
 use mathlib.Core.List.{List, [], _∷_}
 use mathlib.Core.Bool.{Bool, cond, xor}
 use Prim.Native.Nat.{ℕ, zero, suc, _+_, _*_, _-_, _/_, _%_, _^_, min, max}

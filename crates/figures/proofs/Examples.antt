@@ -13,8 +13,7 @@ use Rattle.grid.specs.Grid.{site}
 use lib.IntN.{pos, negsuc}
 use Rattle.lines.specs.Decimal.{isDigit, decimalTo, decimal, signed}
 use Rattle.reading.specs.Reading.{after, digitsOn, readNumber, endedBy, readField, readRow, ahead, lineThen, readRows}
-use Rattle.lines.specs.Line.{endOf}
-use Rattle.lines.specs.Line.{line, fields, lettered}
+use Rattle.lines.specs.Line.{endOf, line, fields, lettered}
 use Rattle.writing.specs.Writing.{refusalText}
 use Rattle.meshtext.specs.MeshText.{pointsText, trianglesText, shellText, shellsText, linesOf, meshText}
 use Rattle.gridtext.specs.Grid.{headOf, readHead, smoothingFits, headNumber, refused, granted, withRows, withHead, readGrid}

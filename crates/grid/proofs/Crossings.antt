@@ -1,15 +1,15 @@
 -- Crossed edges by the coordinates of the sample that they leave, and by which samples are above.
 use mathlib.Core.Path.{_≡_, refl, ap, ap₂, sym, _∙_, fun-ext}
 use mathlib.Core.Bool.{Bool, true, false, _&&_, xor, and-true, and-false, false≢true}
-use Prim.Native.Nat.{ℕ, zero, suc, _+_, _*_, _-_, _/_, _%_, _^_, _<_, _≤_}
+use Prim.Native.Nat.{ℕ, _+_, _*_, _-_, _/_, _%_, _^_, _<_, _≤_}
 use native.Mathlib.Nat.{mul-zero, add-zero, zero-add, mul-one, mul-comm, le-div-iff-mul-le}
 use native.Mathlib.Decide.{decLt}
 use native.Mathlib.Omega.{arith}
-use lib.Dec.{eqb, ltb}
+use lib.Dec.{ltb}
 use borrow.Author.Tests.{lt-ltb, le-ltb, ltb-true}
 use Rattle.laws.proofs.Tests.{both}
-use Rattle.grid.specs.Grid.{Size, sampleCount, site, coordinate, side, Kind, axes, along, otherEnd, fitsAlong, isThere, edgeCount, crossedFrom, crossed}
-use Rattle.grid.proofs.Sites.{choose, site-add, site-of, site-small, coordinate-site, below-x, below-y, below-z}
+use Rattle.grid.specs.Grid.{Size, sampleCount, site, coordinate, side, Kind, axes, along, otherEnd, fitsAlong, isThere, crossedFrom, crossed}
+use Rattle.grid.proofs.Sites.{choose, site-add, site-of, site-small, coordinate-site}
 
 -- grid edge 3s + a by its sample and its axis
 pub edge-sample : (s a : ℕ) → a < 3 → (3 * s + a) / 3 ≡ s

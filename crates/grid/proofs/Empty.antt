@@ -3,12 +3,11 @@ use mathlib.Core.Path.{_≡_}
 use mathlib.Core.List.{List, [], flatMap}
 use mathlib.Core.Bool.{Bool, true, false, xor, and-false}
 use Prim.Native.Nat.{ℕ, _-_, _/_, _%_}
-use native.Mathlib.Omega.{arith}
 use lib.Dec.{leb·zero}
 use lib.ListN.{getD}
-use Rattle.laws.specs.Range.{joinTo, joinBox, keepTo}
+use Rattle.laws.specs.Range.{joinBox, keepTo}
 use Rattle.laws.specs.Bits.{bits, bit}
-use Rattle.laws.proofs.Ranges.{join-quiet}
+use Rattle.laws.proofs.Ranges.{join-empty}
 use Rattle.cube.specs.Cube.{caseOf, isAbove}
 use Rattle.cube.specs.Face.{cuts, wayRound, faceSegments, segmentsOf}
 use Rattle.cube.specs.Loop.{loops, fan}
@@ -16,11 +15,6 @@ use Rattle.cube.specs.Answer.{segments, triangles}
 use Rattle.grid.specs.Grid.{Size, Kind, axes, isAboveGrey, isThere, edgeCount, crossedFrom, crossed}
 use Rattle.grid.specs.Point.{pointEdges}
 use Rattle.grid.specs.Mesh.{caseAt, cubeTriangles, edgeMesh, mesh}
-
--- a join of lists that are all empty
-join-empty : {A : Type 0} (n : ℕ) (f : ℕ → List A) → ((i : ℕ) → f i ≡ []) → joinTo n f ≡ []
-unfolding joinTo
-join-empty n f e = join-quiet 0 n f (omega arith) (λ i a b. e i)
 
 -- no edge is crossed, and a cube with all corners above has no triangle
 module _ (n : Size) (above : ℕ → Bool) (all : (s : ℕ) → above s ≡ true) where

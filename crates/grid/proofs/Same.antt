@@ -1,15 +1,15 @@
 -- Points and triangles depend on which samples of the grid are above, and on nothing else.
-use mathlib.Core.Path.{_≡_, refl, ap, ap₂, sym, _∙_}
-use mathlib.Core.List.{List, [], _∷_, map}
+use mathlib.Core.Path.{_≡_, ap, ap₂}
+use mathlib.Core.List.{map}
 use mathlib.Core.Bool.{Bool}
-use Prim.Native.Nat.{ℕ, _+_, _*_, _-_, _/_, _%_, _<_}
+use Prim.Native.Nat.{ℕ, _+_, _-_, _/_, _%_, _<_}
 use native.Mathlib.Omega.{arith}
-use Rattle.laws.specs.Range.{joinTo, joinBox, countTo, keepTo}
-use Rattle.laws.specs.Mesh.{Triangle, rename}
+use Rattle.laws.specs.Range.{joinBox, countTo, keepTo}
+use Rattle.laws.specs.Mesh.{rename}
 use Rattle.laws.proofs.Ranges.{join-cong}
 use Rattle.cube.specs.Cube.{caseOf}
 use Rattle.cube.specs.Answer.{triangles}
-use Rattle.grid.specs.Grid.{Size, sampleCount, Kind, axes, edgeCount, crossed}
+use Rattle.grid.specs.Grid.{Size, sampleCount, Kind, axes, edgeCount}
 use Rattle.grid.specs.Point.{pointEdges, number}
 use Rattle.grid.specs.Mesh.{cornerSite, gridEdge, caseAt, cubeTriangles, edgeMesh, mesh}
 use Rattle.grid.proofs.Sites.{site-small}

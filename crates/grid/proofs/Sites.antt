@@ -1,10 +1,9 @@
 -- Samples by their coordinates.
-use mathlib.Core.Path.{_≡_, refl, ap, ap₂, sym, _∙_}
-use mathlib.Core.Bool.{Bool, true, false, _&&_, xor}
-use Prim.Native.Nat.{ℕ, zero, suc, _+_, _*_, _-_, _/_, _%_, _^_, _<_, _≤_}
-use native.Mathlib.Nat.{mul-add, mul-assoc, mod-add-div, mod-lt, div-lt-iff-lt-mul, mul-comm}
+use mathlib.Core.Path.{_≡_}
+use Prim.Native.Nat.{ℕ, zero, suc, _+_, _*_, _-_, _/_, _<_}
+use native.Mathlib.Nat.{mul-add, mod-add-div, mod-lt, div-lt-iff-lt-mul, mul-comm}
 use native.Mathlib.Omega.{arith}
-use Rattle.grid.specs.Grid.{Size, sampleCount, site, coordinate, side}
+use Rattle.grid.specs.Grid.{Size, sampleCount, site, coordinate}
 use Rattle.laws.proofs.Digits.{low-mod, low-div, low-lt}
 
 -- which of three goes with an axis

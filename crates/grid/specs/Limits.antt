@@ -1,4 +1,4 @@
--- Document 01, "Numbers and sizes": every bound of the base, here and nowhere else. Samples and the grey value are numbers of 16 bits.
+-- Document 01, "Numbers and sizes": every bound of the base, here and nowhere else. Samples and the grey value are numbers of 16 bits, so that the code needs no bound of theirs.
 use Prim.Native.Nat.{ℕ, _*_, _-_}
 
 -- each side nx, ny, nz
@@ -7,6 +7,10 @@ leastSide = 2
 
 abbrev pub mostSide : ℕ
 mostSide = 64
+
+-- the largest sample, grey value and number of a grid's text
+abbrev pub mostNumber : ℕ
+mostNumber = 65535
 
 -- points V and triangles T
 abbrev pub mostPoints : ℕ

@@ -3,6 +3,9 @@ pub const LEAST_SIDE: u32 = 2;
 
 pub const MOST_SIDE: u32 = 64;
 
+// The largest number of a grid's text.
+pub const MOST_NUMBER: u64 = 65_535;
+
 pub const MOST_POINTS: u32 = 250_000;
 
 pub const MOST_TRIANGLES: u32 = 500_000;

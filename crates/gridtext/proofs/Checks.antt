@@ -9,10 +9,10 @@ use lib.Dec.{leb}
 use lib.ListN.{length, drop}
 use borrow.Author.Tests.{leb-true, eq-eqb, ne-eqb, lt-ltb, le-ltb}
 use Rattle.laws.specs.Room.{laid}
-use Rattle.grid.specs.Limits.{mostRounds, mostWeight, mostSmall}
+use Rattle.grid.specs.Limits.{mostRounds, mostWeight, mostSmall, mostNumber}
 use Rattle.grid.specs.Sides.{sidesFit}
 use Rattle.grid.proofs.Sides.{sides-within}
-use Rattle.reading.specs.Reading.{Got, bad, got, mostNumber, Rows, malformed, rows, readRows}
+use Rattle.reading.specs.Reading.{Got, bad, got, Rows, malformed, rows, readRows}
 use Rattle.reading.specs.Answers.{answeredRows}
 use Rattle.gridtext.specs.Grid.{samplesOf, smoothingFits, headNumber, refusal, refused, grant, granted, withRows, withHead}
 use Rattle.gridtext.specs.Promise.{answeredHead, filled, left}

@@ -9,9 +9,9 @@ use lib.Dec.{eqb, leb}
 use borrow.Author.Tests.{leb-true, eqb-true, eqb-false}
 use lib.ListN.{take}
 use lib.Seq.{take-take}
-use Rattle.grid.specs.Limits.{mostSmall}
+use Rattle.grid.specs.Limits.{mostSmall, mostNumber}
 use Rattle.lines.specs.Decimal.{isDigit}
-use Rattle.reading.specs.Reading.{Got, bad, got, after, digitsOn, readNumber, endedBy, readField, mostNumber, readRow, Rows, lineThen, readRows}
+use Rattle.reading.specs.Reading.{Got, bad, got, after, digitsOn, readNumber, endedBy, readField, readRow, Rows, lineThen, readRows}
 use Rattle.lines.specs.Line.{tab, endOf}
 use Rattle.gridtext.specs.Grid.{letterG, headOf, readHead, headNumber, withHead, readGrid, mostRead}
 use Rattle.gridtext.specs.declared.Head.{Head}

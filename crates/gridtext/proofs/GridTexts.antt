@@ -1,31 +1,29 @@
 -- The reader takes the text of each small grid, with the grid in it, and takes nothing else.
 use mathlib.Core.Path.{_≡_, refl, ap, sym, _∙_}
 use mathlib.Core.List.{List, [], _∷_, _++_}
-use mathlib.Core.Bool.{Bool, true, false, cond, _&&_}
 use Prim.Native.Nat.{ℕ, zero, suc, _+_, _*_, _≤_, _<_}
 use native.Mathlib.Nat.{add-comm}
 use native.Mathlib.Decide.{decLt, ℕ-discrete}
 use native.Mathlib.Omega.{arith}
-use lib.Dec.{eqb, leb}
+use lib.Dec.{leb}
 use lib.ListN.{length, getD, length-append}
-use borrow.Author.Tests.{eqb-true, leb-true}
+use borrow.Author.Tests.{leb-true}
 use Rattle.laws.specs.Range.{joinTo}
 use Rattle.laws.specs.Sum.{All}
 use Rattle.laws.proofs.Tests.{both}
 use Rattle.laws.proofs.Sums.{all-append}
-use Rattle.laws.proofs.Ranges.{join-cong, join-blocks}
-use Rattle.grid.specs.Limits.{mostRounds, mostWeight}
+use Rattle.laws.proofs.Ranges.{join-cong, join-blocks, all-entries}
+use Rattle.grid.specs.Limits.{mostRounds, mostWeight, mostNumber}
 use Rattle.grid.specs.Grid.{site}
-use Rattle.reading.specs.Reading.{Got, bad, got, after, mostNumber, readRow, Rows, malformed, rows, readRows}
+use Rattle.reading.specs.Reading.{Got, bad, got, after, Rows, malformed, rows, readRows}
 use Rattle.lines.specs.Line.{line}
 use Rattle.gridtext.specs.Grid.{headOf, readHead, samplesOf, headNumber, Outcome, refused, granted, withRows, withHead, readGrid}
 use Rattle.gridtext.specs.GridText.{sizeOf, row, rowsText, headText, gridText, Small}
 use Rattle.gridtext.specs.declared.Head.{Head}
-use Rattle.reading.proofs.Digits.{never}
 use Rattle.grid.proofs.Sides.{sides-within}
+use Rattle.gridtext.proofs.Heads.{read-is-head}
 use Rattle.gridtext.proofs.Checks.{passed, head-refused, room-short, room-holds}
-use Rattle.laws.proofs.Ranges.{all-entries}
-use Rattle.reading.proofs.Texts.{part, row-written, IsLine, row-read, rows-written, rows-read}
+use Rattle.reading.proofs.Texts.{part, row-written, rows-written, rows-read}
 
 -- the rows of a grid in the order of the file
 row-part : (h : Head) (samples : List ℕ) (y z : ℕ) → row (sizeOf h) samples y z ≡ part (h .nx) samples (h .ny * z + y)
@@ -87,42 +85,6 @@ grid-read h samples room s l =
       parts-whole (h .nx) (h .ny * h .nz) samples (s .whole),
     )
 
--- line 1, read and written
-six-list : (ns : List ℕ) → length ns ≡ 6 → getD ns 0 0 ∷ getD ns 1 0 ∷ getD ns 2 0 ∷ getD ns 3 0 ∷ getD ns 4 0 ∷ getD ns 5 0 ∷ [] ≡ ns
-unfolding joinTo
-six-list ns e = all-entries ns 6 (sym e)
-
-head-of-line : (b c : ℕ) (bs ns more : List ℕ) → eqb b 71 && eqb c 9 ≡ true → IsLine mostNumber 6 ns bs more → (b ∷ c ∷ bs ≡ headText (headOf ns) ++ more) × (headOf ns .grey ≤ mostNumber)
-unfolding headText headOf
-head-of-line b c bs ns more t f =
-    let s = both (eqb b 71) (eqb c 9) t in
-    let g : b ≡ 71 = eqb-true b 71 (s .0) in
-    let u : c ≡ 9 = eqb-true c 9 (s .1) in
-    (rw (g, u, six-list ns (f .1)) (ap (λ l. 71 ∷ 9 ∷ l) (f .0)), all-within mostNumber ns (f .2) 3)
-
-head-taken : (h : Head) (input rest : List ℕ) → readHead input ≡ got h rest → (input ≡ headText h ++ rest) × (h .grey ≤ mostNumber)
-unfolding readHead after
-head-taken h [] rest e = never e
-head-taken h (b ∷ []) rest e = never e
-head-taken h (b ∷ c ∷ bs) rest e = go (eqb b 71 && eqb c 9) refl e
-  where
-    Taken : Head → List ℕ → Type 0
-    Taken h rest = (b ∷ c ∷ bs ≡ headText h ++ rest) × (h .grey ≤ mostNumber)
-
-    same : (ns more : List ℕ) → Taken (headOf ns) more → got (headOf ns) more ≡ got h rest → Taken h rest
-    same ns more t e =
-        let q : headOf ns ≡ h = cc in
-        let r : more ≡ rest = cc in
-        rw (sym q, sym r) t
-
-    in-row : (read : Got (List ℕ)) → ((ns more : List ℕ) → read ≡ got ns more → Taken (headOf ns) more) → after (λ ns rest. got (headOf ns) rest) read ≡ got h rest → Taken h rest
-    in-row bad f e = never e
-    in-row (got ns more) f e = same ns more (f ns more refl) e
-
-    go : (t : Bool) → eqb b 71 && eqb c 9 ≡ t → cond t (after (λ ns rest. got (headOf ns) rest) (readRow mostNumber 6 bs)) bad ≡ got h rest → Taken h rest
-    go true t e = in-row (readRow mostNumber 6 bs) (λ ns more q. head-of-line b c bs ns more t (row-read mostNumber 6 ns bs more (omega arith) q)) e
-    go false t e = never e
-
 -- what is taken is the text of a small grid, and is answered as that grid
 pub record Taken (input room : List ℕ) (outcome : Outcome) : Type 0 where
   pub head : Head
@@ -174,4 +136,4 @@ grid-taken input room z = go (readHead input) refl z
   where
     go : (read : Got Head) → readHead input ≡ read → withHead room read .answer .number ≡ 0 → Taken input room (withHead room read)
     go bad e z = absurd (omega arith)
-    go (got h rest) e z = let t = head-taken h input rest e in head-rest h input rest room (t .0) (t .1) z
+    go (got h rest) e z = let t = read-is-head input rest h e in head-rest h input rest room (t .written) (t .within .1 .1 .1 .0) z

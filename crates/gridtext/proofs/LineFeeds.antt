@@ -12,8 +12,7 @@ use Rattle.laws.specs.Sum.{sumOf}
 use Rattle.laws.proofs.Sums.{sum-append}
 use Rattle.grid.proofs.Sides.{sides-within}
 use Rattle.lines.specs.Decimal.{digit, decimalTo, decimal}
-use Rattle.lines.specs.Line.{tab, lineFeed, endOf}
-use Rattle.lines.specs.Line.{line}
+use Rattle.lines.specs.Line.{tab, lineFeed, endOf, line}
 use Rattle.gridtext.specs.Grid.{headNumber}
 use Rattle.gridtext.specs.GridText.{headText}
 use Rattle.gridtext.specs.Malformed.{RowThen, RowsThen, none, row, FirstMalformed, HeadThen}

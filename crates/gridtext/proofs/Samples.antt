@@ -11,10 +11,10 @@ use lib.Seq.{take-suc, length-take-le, getD-take, take-at}
 use borrow.Author.Tests.{eq-eqb, ne-eqb}
 use Rattle.laws.specs.Room.{laid}
 use Rattle.laws.proofs.Rooms.{laid-next}
-use Rattle.grid.specs.Limits.{mostSide}
+use Rattle.grid.specs.Limits.{mostSide, mostNumber}
 use Rattle.grid.specs.Sides.{sidesFit}
 use Rattle.grid.proofs.Sides.{sides-within}
-use Rattle.reading.specs.Reading.{bad, got, after, mostNumber, readRow, Rows, malformed, rows}
+use Rattle.reading.specs.Reading.{bad, got, after, readRow, Rows, malformed, rows}
 use Rattle.reading.specs.Answers.{answeredRows}
 use Rattle.gridtext.specs.Promise.{filled}
 use Rattle.gridtext.specs.Grid.{headOf, readHead}

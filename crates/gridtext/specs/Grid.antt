@@ -6,8 +6,8 @@ use lib.Dec.{eqb, leb, ltb}
 use lib.ListN.{length, getD}
 use Rattle.laws.specs.Room.{laid}
 use Rattle.grid.specs.Sides.{sidesFit}
-use Rattle.grid.specs.Limits.{mostRounds, mostWeight, mostSmall}
-use Rattle.reading.specs.Reading.{Got, bad, got, after, mostNumber, readRow, Rows, malformed, rows, readRows}
+use Rattle.grid.specs.Limits.{mostRounds, mostWeight, mostSmall, mostNumber}
+use Rattle.reading.specs.Reading.{Got, bad, got, after, readRow, Rows, malformed, rows, readRows}
 use Rattle.lines.specs.Line.{tab}
 use Rattle.gridtext.specs.declared.Head.{Head}
 use Rattle.gridtext.specs.declared.Parsed.{Parsed}

@@ -6,9 +6,8 @@ use lib.ListN.{length, getD}
 use Rattle.laws.specs.Range.{joinTo}
 use Rattle.laws.specs.Sum.{All}
 use Rattle.grid.specs.Grid.{Size, site}
-use Rattle.lines.specs.Line.{tab}
-use Rattle.reading.specs.Reading.{mostNumber}
-use Rattle.lines.specs.Line.{line}
+use Rattle.lines.specs.Line.{tab, line}
+use Rattle.grid.specs.Limits.{mostNumber}
 use Rattle.gridtext.specs.Grid.{letterG, samplesOf, headNumber}
 use Rattle.gridtext.specs.declared.Head.{Head}
 

@@ -4,7 +4,7 @@ use mathlib.Core.List.{List, [], _∷_, _++_}
 use Prim.Native.Nat.{ℕ, suc, _+_, _*_, _≤_, _<_}
 use lib.ListN.{length}
 use Rattle.laws.specs.Sum.{All}
-use Rattle.reading.specs.Reading.{mostNumber}
+use Rattle.grid.specs.Limits.{mostNumber}
 use Rattle.lines.specs.Line.{line}
 use Rattle.gridtext.specs.Grid.{headNumber}
 use Rattle.gridtext.specs.GridText.{headText}

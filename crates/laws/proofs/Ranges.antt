@@ -213,3 +213,7 @@ pub join-first : {A : Type 0} (n : ℕ) (f : ℕ → List A) → joinTo (suc n) 
 join-first n f =
     let e : suc n ≡ 1 + n = omega arith in
     rw (e, join-split 1 n f, join-one f)
+
+-- a join of lists that are all empty
+pub join-empty : {A : Type 0} (n : ℕ) (f : ℕ → List A) → ((i : ℕ) → f i ≡ []) → joinTo n f ≡ []
+join-empty n f e = join-quiet 0 n f (omega arith) (λ i a b. e i) ∙ join-zero f

@@ -1,13 +1,15 @@
 -- Tests that some number of a range passes, and that something is in a list; sums over what passes and over the places of a list.
 use mathlib.Core.Path.{_≡_, refl, ap, ap₂, sym, _∙_}
 use mathlib.Core.List.{List, [], _∷_, _++_}
-use mathlib.Core.Bool.{Bool, true, false, cond, _||_, or-comm, or-assoc}
-use Prim.Native.Nat.{ℕ, zero, suc, _+_}
+use mathlib.Core.Bool.{Bool, true, false, cond, _||_, or-comm, or-assoc, false≢true}
+use mathlib.Core.Logic.{⊎-elim}
+use Prim.Native.Nat.{ℕ, zero, suc, _+_, _<_}
 use native.Mathlib.Omega.{arith}
 use lib.ListN.{length, getD}
 use Rattle.laws.specs.Range.{sumTo, joinTo, keepTo, someTo}
 use Rattle.laws.specs.Sum.{sumOf}
 use Rattle.laws.specs.Order.{isIn}
+use Rattle.laws.proofs.Tests.{either}
 use Rattle.laws.proofs.Sums.{sum-append}
 
 -- the first number of a range by itself
@@ -19,6 +21,12 @@ some-first (suc n) p =
     ∙ sym (or-assoc (p (suc n)) (p 0) (someTo n (λ k. p (suc k))))
     ∙ ap (λ b. b || someTo n (λ k. p (suc k))) (or-comm (p (suc n)) (p 0))
     ∙ or-assoc (p 0) (p (suc n)) (someTo n (λ k. p (suc k)))
+
+-- a number that passes
+pub some-at : {P : Type 0} (n : ℕ) (p : ℕ → Bool) → someTo n p ≡ true → ((i : ℕ) → i < n → p i ≡ true → P) → P
+unfolding someTo
+some-at zero p h f = absurd (false≢true h)
+some-at (suc n) p h f = ⊎-elim (λ e. f n (omega arith) e) (λ e. some-at n p e (λ i l. f i (omega arith))) (either (p n) (someTo n p) h)
 
 -- two tests in one
 pub some-or : (n : ℕ) (p q : ℕ → Bool) → (someTo n p || someTo n q) ≡ someTo n (λ i. p i || q i)

@@ -11,8 +11,7 @@ use Rattle.laws.specs.Threes.{threeAt}
 use Rattle.grid.specs.Limits.{mostPoints}
 use Rattle.mesh.specs.Check.{lengthsFit}
 use Rattle.lines.specs.Decimal.{signed}
-use Rattle.lines.specs.Line.{tab, lineFeed}
-use Rattle.lines.specs.Line.{fields, lettered}
+use Rattle.lines.specs.Line.{tab, lineFeed, fields, lettered}
 use Rattle.writing.specs.Writing.{Outcome, outcome, written}
 
 -- `V`: grid edge, smoothed x, y, z, mark

@@ -9,18 +9,16 @@ use lib.ListN.{length, getD, set, length-set}
 use lib.Seq.{getD-set-same, getD-set-other}
 use Rattle.laws.specs.Range.{one-if, countTo, sumTo}
 use Rattle.laws.proofs.Keep.{count-next, length-keep}
-use Rattle.laws.proofs.Ranges.{count-split}
+use Rattle.laws.proofs.Ranges.{count-split, count-le, count-none}
 use Rattle.grid.specs.Grid.{axes, edgeCount, crossed}
 use Rattle.grid.specs.Point.{number, pointEdges}
 use Rattle.grid.specs.Work.{Numbered}
 use Rattle.masks.specs.Masks.{maskAbove}
 use Rattle.rows.specs.declared.Sides.{Sides}
 use Rattle.rows.specs.declared.Cuts.{Cuts}
-use Rattle.rows.specs.Rows.{sizeOf}
-use Rattle.rows.specs.Rows.{nextNumber}
+use Rattle.rows.specs.Rows.{sizeOf, nextNumber}
 use Rattle.pointnumbers.specs.Numbers.{SampleNumbered, NumberedTo}
 use Rattle.rows.proofs.Cut.{Tested}
-use Rattle.laws.proofs.Ranges.{count-le, count-none}
 
 module _ (sides : Sides) (masks : List ℕ) where
   abbrev cut : ℕ → Bool

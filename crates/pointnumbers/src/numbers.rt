@@ -2,8 +2,7 @@
 ghost use mathlib.Core.Path.{_≡_};
 ghost use Prim.Native.Nat.{_+_, _<_, _≤_};
 ghost use lib.ListN.{length, set};
-ghost use Rattle.rows.specs.Rows.{Ready, firstEdge};
-ghost use Rattle.rows.specs.Rows.{mostEdges, nextNumber};
+ghost use Rattle.rows.specs.Rows.{Ready, firstEdge, mostEdges, nextNumber};
 ghost use Rattle.pointnumbers.specs.Numbers.{SampleNumbered, NumberedTo};
 use rows::Cuts;
 use rows::Sides;

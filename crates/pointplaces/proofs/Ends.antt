@@ -17,8 +17,7 @@ use Rattle.grid.proofs.Crossings.{step-x, step-y, step-z, crossed-x, crossed-y,
 use Rattle.masks.specs.Masks.{maskAbove}
 use Rattle.rows.specs.declared.Sides.{Sides}
 use Rattle.rows.specs.declared.Cuts.{Cuts}
-use Rattle.rows.specs.Rows.{sizeOf}
-use Rattle.rows.specs.Rows.{nextNumber}
+use Rattle.rows.specs.Rows.{sizeOf, nextNumber}
 use Rattle.pointplaces.specs.Places.{Rooms, RoomsFor, stepOf, Placeable, SamplePlaceable, Given, countBelow, countAll}
 use Rattle.rows.proofs.Bounds.{sample-small}
 use Rattle.rows.proofs.Cut.{Tested, same-ends}

@@ -11,8 +11,8 @@ use Rattle.laws.specs.Nearest.{nearest}
 use Rattle.laws.specs.Range.{one-if, sumTo, countTo, joinTo, keepTo}
 use Rattle.laws.specs.Room.{laid}
 use Rattle.laws.proofs.Keep.{length-keep, keep-next, count-next}
-use Rattle.laws.proofs.Ranges.{count-split, length-flat}
-use Rattle.laws.proofs.Writes.{sets-front}
+use Rattle.laws.proofs.Ranges.{count-split, length-flat, count-none, keep-none}
+use Rattle.laws.proofs.Writes.{sets-front, flat-sets, map-sets}
 use Rattle.grid.specs.Limits.{unit}
 use Rattle.grid.specs.Grid.{Size, axes, otherEnd, edgeCount, crossed, mark, onFace}
 use Rattle.grid.specs.Point.{apart, offset, number, pointEdges, place, placeFrom}
@@ -20,13 +20,10 @@ use Rattle.masks.specs.Masks.{maskAbove}
 use Rattle.rows.specs.declared.Sides.{Sides}
 use Rattle.rows.specs.declared.Cuts.{Cuts}
 use Rattle.pointplaces.specs.declared.places.Point.{Point}
-use Rattle.rows.specs.Rows.{sizeOf}
-use Rattle.rows.specs.Rows.{nextNumber}
+use Rattle.rows.specs.Rows.{sizeOf, nextNumber}
 use Rattle.pointplaces.specs.Places.{Rooms, coordinates, written, withPoint, stepOf, pointBy, pointFrom, pointAt, pointsBelow, countBelow, RoomsFor, Placeable, SamplePlaced, Advanced}
 use Rattle.rows.proofs.Cut.{Tested}
-use Rattle.laws.proofs.Ranges.{count-none, keep-none}
 use Rattle.laws.proofs.Lists.{flat-map}
-use Rattle.laws.proofs.Writes.{flat-sets, map-sets}
 
 -- the offset of samples of sixteen bits is far below what a coordinate's type holds
 pub offset-fits : (v0 v1 grey : ℕ) → v0 < 2 ^ 16 → v1 < 2 ^ 16 → grey < 2 ^ 16 → offset v0 v1 grey < 2 ^ 26

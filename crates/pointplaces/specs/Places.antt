@@ -15,8 +15,7 @@ use Rattle.rows.specs.declared.Sides.{Sides}
 use Rattle.rows.specs.declared.Cuts.{Cuts}
 use Rattle.pointplaces.specs.declared.places.Sample.{Sample}
 use Rattle.pointplaces.specs.declared.places.Point.{Point}
-use Rattle.rows.specs.Rows.{Ready, sizeOf}
-use Rattle.rows.specs.Rows.{nextNumber}
+use Rattle.rows.specs.Rows.{Ready, sizeOf, nextNumber}
 
 -- the three rooms
 pub record Rooms : Type 0 where

@@ -1,12 +1,11 @@
 -- A line of numbers and a run of lines, read piece by piece.
 use mathlib.Core.Path.{_≡_, refl, ap, sym, _∙_}
 use mathlib.Core.List.{List, [], _∷_, _++_, append-assoc, append-nil}
-use mathlib.Core.Bool.{Bool, true, false}
-use Prim.Native.Nat.{ℕ, zero, suc, _+_, _*_, _-_, _≤_, _<_}
+use Prim.Native.Nat.{ℕ, suc, _+_, _*_, _-_, _≤_, _<_}
 use native.Mathlib.Nat.{sub-zero, mul-suc, mul-le-mul-left}
 use native.Mathlib.Numerals.{add-one}
 use native.Mathlib.Omega.{arith}
-use lib.ListN.{length, getD, take, drop, set, length-drop}
+use lib.ListN.{length, take, drop, set, length-drop}
 use lib.Seq.{take-suc-set, drop-set-add, take-add}
 use Rattle.reading.specs.Reading.{Got, bad, got, after, readField, readRow, Rows, malformed, rows, ahead, lineThen, readRows}
 use Rattle.lines.specs.Line.{endOf}

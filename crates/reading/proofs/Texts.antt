@@ -1,15 +1,14 @@
 -- A line of numbers, and lines of numbers, read as they were written.
 use mathlib.Core.Path.{_≡_, refl, ap, sym, _∙_}
-use mathlib.Core.List.{List, [], _∷_, _++_, append-assoc, append-nil}
+use mathlib.Core.List.{List, [], _∷_, _++_, append-assoc}
 use mathlib.Core.Bool.{Bool, true, false, cond}
-use Prim.Native.Nat.{ℕ, zero, suc, _+_, _*_, _-_, _≤_, _<_}
+use Prim.Native.Nat.{ℕ, zero, suc, _+_, _*_, _-_, _≤_}
 use native.Mathlib.Decide.{ℕ-discrete}
 use native.Mathlib.Nat.{mul-zero, mul-suc, mul-add, mul-one}
-use native.Mathlib.Numerals.{add-one}
 use native.Mathlib.Omega.{arith}
 use lib.Dec.{eqb, leb}
-use lib.ListN.{length, getD, take, length-append, List·getD-append}
-use lib.Seq.{take-suc, take-all, getD-append-add}
+use lib.ListN.{length, getD, length-append, List·getD-append}
+use lib.Seq.{getD-append-add}
 use borrow.Author.Tests.{eq-eqb, leb-true, leb-false, eqb-true}
 use Rattle.laws.specs.Range.{joinTo}
 use Rattle.laws.specs.Sum.{All}
@@ -17,8 +16,7 @@ use Rattle.laws.proofs.Sums.{all-append}
 use Rattle.laws.proofs.Ranges.{all-entries, join-cong, join-zero, join-first}
 use Rattle.lines.specs.Decimal.{decimal, isDigit}
 use Rattle.reading.specs.Reading.{Got, bad, got, after, digitsOn, readNumber, endedBy, readField, readRow, Rows, malformed, rows, ahead, lineThen, readRows}
-use Rattle.lines.specs.Line.{endOf}
-use Rattle.lines.specs.Line.{line}
+use Rattle.lines.specs.Line.{endOf, line}
 use Rattle.reading.proofs.Digits.{never, digits-stop, digits-over, digits-next, digits-done, number-empty, number-zero, number-none, number-starts, number-written, number-read}
 use Rattle.lines.proofs.Decimals.{of-digit}
 

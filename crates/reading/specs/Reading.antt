@@ -1,6 +1,6 @@
 -- Pieces read from the front of a text.
 use mathlib.Core.List.{List, [], _∷_, _++_}
-use mathlib.Core.Bool.{Bool, cond}
+use mathlib.Core.Bool.{cond}
 use Prim.Native.Nat.{ℕ, zero, suc, _+_, _*_, _-_}
 use lib.Dec.{eqb, leb}
 use Rattle.lines.specs.Decimal.{digit, isDigit}
@@ -36,10 +36,6 @@ endedBy end n (b ∷ rest) = cond (eqb b end) (got n rest) bad
 
 unfoldable pub readField : ℕ → ℕ → List ℕ → Got ℕ
 readField most end bs = after (endedBy end) (readNumber most bs)
-
--- the largest number of a grid's text
-abbrev pub mostNumber : ℕ
-mostNumber = 65535
 
 -- a line, or what is left of it, of so many numbers
 unfoldable pub readRow : ℕ → ℕ → List ℕ → Got (List ℕ)

@@ -4,12 +4,11 @@ ghost use mathlib.Core.Path.{_≡_};
 ghost use mathlib.Core.Bool.{false};
 ghost use lib.ListN.{length, take, drop};
 ghost use Rattle.lines.specs.Decimal.{isDigit};
-ghost use Rattle.reading.specs.Reading.{digitsOn, readNumber, readField, mostNumber, readRow, readRows};
+ghost use Rattle.reading.specs.Reading.{digitsOn, readNumber, readField, readRow, readRows};
+ghost use Rattle.grid.specs.Limits.{mostNumber};
 ghost use Rattle.reading.specs.Answers.{Reads, answeredLine, answeredRows};
+use grid::limits::MOST_NUMBER;
 use lines::end_of;
-
-// The largest number of a grid's text.
-const MOST_NUMBER: u64 = 65_535;
 
 // The number that was read, and the place behind it; or not ok.
 pub struct Field {

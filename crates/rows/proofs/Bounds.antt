@@ -7,8 +7,7 @@ use Rattle.grid.specs.Grid.{axes, sampleCount, edgeCount}
 use Rattle.grid.specs.Work.{SidesFit}
 use Rattle.laws.proofs.Digits.{low-lt}
 use Rattle.rows.specs.declared.Sides.{Sides}
-use Rattle.rows.specs.Rows.{sizeOf, firstEdge}
-use Rattle.rows.specs.Rows.{mostEdges}
+use Rattle.rows.specs.Rows.{sizeOf, firstEdge, mostEdges}
 
 -- a row of a grid, and the rows behind it and over it
 module _ (ny nz : ℕ) (most-y : ny ≤ 64) (most-z : nz ≤ 64) (y z : ℕ) where

@@ -5,7 +5,6 @@ ghost use Prim.Native.Nat.{_*_, _<_, _≤_};
 ghost use lib.ListN.{length};
 ghost use Rattle.laws.specs.Range.{countTo};
 ghost use Rattle.laws.specs.Values.{listTo};
-ghost use Rattle.laws.specs.Room.{laid};
 ghost use Rattle.grid.specs.Limits.{mostPoints};
 ghost use Rattle.mesh.specs.Check.{trianglesFit};
 ghost use Rattle.sets.specs.Sets.{Falling, root, isRoot, rankOf, SameSets, Joined, United};

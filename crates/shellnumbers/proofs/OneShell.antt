@@ -1,24 +1,17 @@
 -- Where every point but point 0 shares a side with a lower one, all points are one shell.
 use mathlib.Core.Path.{_≡_, sym, _∙_}
 use mathlib.Core.List.{List}
-use mathlib.Core.Bool.{Bool, true, false≢true}
-use mathlib.Core.Logic.{⊎-elim}
+use mathlib.Core.Bool.{true}
 use Prim.Native.Nat.{ℕ, zero, suc, _<_, _≤_}
 use native.Mathlib.Omega.{arith}
 use lib.ListN.{replicate, length-replicate, getD-replicate}
 use Rattle.laws.specs.Range.{allTo, someTo}
 use Rattle.laws.specs.Mesh.{Triangle}
-use Rattle.laws.proofs.Tests.{all-at, either}
+use Rattle.laws.proofs.Tests.{all-at}
 use Rattle.mesh.specs.Neighbours.{shareSide}
 use Rattle.sets.specs.Led.{Led, here, along}
 use Rattle.shellnumbers.specs.Numbering.{numberOf, Numbering}
 use Rattle.sets.proofs.Leading.{led-on, led-back}
-
--- a number that passes
-some-at : {P : Type 0} (n : ℕ) (p : ℕ → Bool) → someTo n p ≡ true → ((i : ℕ) → i < n → p i ≡ true → P) → P
-unfolding someTo
-some-at zero p h f = absurd (false≢true h)
-some-at (suc n) p h f = ⊎-elim (λ e. f n (omega arith) e) (λ e. some-at n p e (λ i l. f i (omega arith))) (either (p n) (someTo n p) h)
 
 module _ (ts : List Triangle) (m : ℕ) (lower : allTo m (λ i. someTo (suc i) (shareSide ts (suc i))) ≡ true) where
   -- sides lead down to point 0, and so between any two points

@@ -30,7 +30,7 @@ use Rattle.rounds.specs.Round.{rounds}
 use Rattle.records.specs.Record.{anyOf, diagonals, determinant, sixfold, pointsUnder, namesUnder, trianglesUnder, recordFrom}
 use Rattle.shellnumbers.proofs.OneShell.{one-shell}
 use Rattle.closed.specs.Left.{Mesh, smoothed}
-use Rattle.reading.specs.Reading.{mostNumber}
+use Rattle.grid.specs.Limits.{mostNumber}
 use Rattle.gridtext.specs.Grid.{smoothingFits, headNumber}
 use Rattle.gridtext.specs.GridText.{Small}
 use Rattle.figures.proofs.Examples.{exampleInput, exampleNumbers, exampleSamples, exampleOutput, example-text, example-output}

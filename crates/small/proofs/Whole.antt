@@ -1,17 +1,14 @@
 -- The program reads no more of an input than decides its answer: what it may answer to the bytes that it reads, it may answer to the whole input.
-use mathlib.Core.Path.{_≡_, ap, sym, _∙_, subst}
+use mathlib.Core.Path.{_≡_, ap, sym, _∙_}
 use mathlib.Core.List.{List}
 use Prim.Native.Nat.{ℕ}
 use lib.ListN.{take, replicate}
 use Rattle.grid.specs.Limits.{mostSmall}
-use Rattle.gridtext.specs.Grid.{Outcome, granted, readGrid}
-use Rattle.gridtext.specs.GridText.{Small, gridText}
+use Rattle.gridtext.specs.Grid.{readGrid}
 use Rattle.writing.specs.Writing.{refusalText}
-use Rattle.gridtext.specs.declared.Head.{Head}
 use Rattle.gridtext.proofs.Enough.{enough-read}
 use Rattle.printing.specs.Sizes.{mostInput}
-use Rattle.small.specs.Answer.{smoothedMesh, gridEdges, parsed, Answers, printed, refused}
-use Rattle.printing.specs.Prints.{Prints}
+use Rattle.small.specs.Answer.{parsed, Answers, printed, refused}
 use Rattle.small.proofs.OneAnswer.{grid-of-text, text-of-grid}
 
 module _ (input : List ℕ) where

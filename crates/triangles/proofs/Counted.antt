@@ -6,13 +6,12 @@ use native.Mathlib.Omega.{arith}
 use lib.ListN.{length, length-map}
 use Rattle.laws.specs.Range.{sumTo}
 use Rattle.laws.specs.Mesh.{rename}
-use Rattle.laws.proofs.Ranges.{sum-next}
+use Rattle.laws.proofs.Ranges.{sum-next, sum-most}
 use Rattle.cube.specs.Answer.{count, triangles}
 use Rattle.grid.specs.Mesh.{gridEdge, caseAt, cubeTriangles, edgeMesh}
 use Rattle.grid.specs.Work.{size}
 use Rattle.masks.specs.Masks.{maskAbove}
 use Rattle.triangles.specs.Row.{masksAt, rowCase, rowCount, layerCount}
-use Rattle.laws.proofs.Ranges.{sum-most}
 use Rattle.laws.proofs.Box.{sumBox, sum-box-cong, length-box}
 use Rattle.triangles.proofs.Cases.{case-of-masks}
 use Rattle.triangles.proofs.Steps.{layer-count-most}

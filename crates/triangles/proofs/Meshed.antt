@@ -8,7 +8,7 @@ use lib.ListN.{length, getD, length-map}
 use Rattle.laws.specs.Range.{joinTo, joinBox}
 use Rattle.laws.specs.Mesh.{rename, cornersOf, flat}
 use Rattle.laws.specs.Room.{laid}
-use Rattle.laws.proofs.Ranges.{join-next}
+use Rattle.laws.proofs.Ranges.{join-next, join-room}
 use Rattle.laws.proofs.Writes.{sets-front}
 use Rattle.cube.specs.Cube.{cubeEdges}
 use Rattle.cube.specs.Answer.{triangles}
@@ -21,7 +21,6 @@ use Rattle.grid.specs.Work.{size, Numbered}
 use Rattle.masks.specs.Masks.{maskAbove}
 use Rattle.triangles.specs.Row.{masksAt, rowCase, edgeOffset, cubeNumbers, rowNumbers, layerNumbers}
 use Rattle.triangles.specs.Walk.{LayerRoom, Written}
-use Rattle.laws.proofs.Ranges.{join-room}
 use Rattle.laws.proofs.Box.{join-box-cong, map-box, flat-box}
 use Rattle.laws.proofs.Lists.{map-cong}
 use Rattle.laws.proofs.Sides.{length-corners, flat-renamed}

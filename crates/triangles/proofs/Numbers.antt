@@ -7,17 +7,15 @@ use lib.ListN.{length, getD, take, set, length-map, length-append}
 use lib.Seq.{sets, length-sets}
 use Rattle.laws.specs.Range.{joinTo}
 use Rattle.laws.specs.Mesh.{flat}
-use Rattle.laws.proofs.Ranges.{join-next, join-quiet}
-use Rattle.laws.proofs.Writes.{sets-append}
+use Rattle.laws.proofs.Ranges.{join-next, join-quiet, join-room}
+use Rattle.laws.proofs.Writes.{sets-append, sets-next}
 use Rattle.cube.specs.Answer.{count, triangles, table}
 use Rattle.cube.proofs.Cases.{CrossedEdge}
 use Rattle.triangles.specs.declared.RowMasks.{RowMasks}
 use Rattle.triangles.specs.Row.{masksAt, rowCase, cubeNumbers, rowNumbers, layerNumbers}
 use Rattle.triangles.specs.Walk.{CubeRoom, RowRoom, LayerRoom, Written}
-use Rattle.laws.proofs.Ranges.{join-room}
 use Rattle.laws.proofs.Lists.{all-get, map-at}
 use Rattle.laws.proofs.Sides.{length-corners}
-use Rattle.laws.proofs.Writes.{sets-next}
 use Rattle.triangles.proofs.Cases.{corner-in-table, corners-crossed, row-case-small}
 
 -- a cube's numbers

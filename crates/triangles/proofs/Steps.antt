@@ -7,7 +7,7 @@ use native.Mathlib.Omega.{arith}
 use lib.ListN.{getD}
 use Rattle.laws.specs.Range.{sumTo}
 use Rattle.laws.specs.Bits.{halved}
-use Rattle.laws.proofs.Ranges.{sum-next, sum-quiet}
+use Rattle.laws.proofs.Ranges.{sum-next, sum-quiet, sum-most}
 use Rattle.laws.proofs.Halves.{halved-next}
 use Rattle.laws.proofs.Words.{halved-more}
 use Rattle.cube.specs.Answer.{count, countTable}
@@ -18,7 +18,6 @@ use Rattle.triangles.specs.declared.Layer.{Layer}
 use Rattle.triangles.specs.Row.{masksAt, masksAfter, masksPast, masksFrom, firstCase, rowCase, rowCount, layerCount}
 use Rattle.masks.specs.Masks.{AllSet}
 use Rattle.triangles.specs.Walk.{LayerFits}
-use Rattle.laws.proofs.Ranges.{sum-most}
 use Rattle.triangles.proofs.Cases.{row-case-small, count-most}
 
 -- each layer of cubes has its two layers of samples among the masks

@@ -11,8 +11,7 @@ ghost use Rattle.cube.specs.Promise.{Rows, Counts};
 ghost use Rattle.grid.specs.Mesh.{edgeMesh, mesh};
 ghost use Rattle.grid.specs.Work.{size, SidesFit, Numbered};
 ghost use Rattle.masks.specs.Masks.{maskAbove, AllSet};
-ghost use Rattle.triangles.specs.Row.{masksAt, masksAfter, masksPast, firstCase, rowCount, layerCount};
-ghost use Rattle.triangles.specs.Row.{edgeOffset, cubeNumbers, rowNumbers, layerNumbers};
+ghost use Rattle.triangles.specs.Row.{masksAt, masksAfter, masksPast, firstCase, rowCount, layerCount, edgeOffset, cubeNumbers, rowNumbers, layerNumbers};
 ghost use Rattle.triangles.specs.Walk.{Busy, LayerFits, CubeRoom, RowRoom, LayerRoom, Written};
 
 // The masks of the four rows of samples around a row of cubes: the row at the cubes' y and z, and those one on along y, along z and along both.

@@ -5,17 +5,15 @@ use mathlib.Core.List.{List, [], _∷_, _++_, append-assoc}
 use Prim.Native.Nat.{ℕ, zero, suc, _+_, _-_, _/_, _%_, _^_, _≤_, _<_}
 use native.Mathlib.Nat.{pow-succ', add-zero}
 use native.Mathlib.Decide.{decLt}
-use native.Mathlib.Numerals.{add-one}
 use native.Mathlib.Omega.{arith}
 use lib.Dec.{ltb}
 use lib.ListN.{length, getD, take, drop, set, length-append, length-drop, drop-of-length-le}
-use lib.Seq.{sets, set-comm, take-at, drop-at}
+use lib.Seq.{sets, take-at, drop-at}
 use borrow.Author.Tests.{le-ltb, lt-ltb}
 use Rattle.laws.specs.Room.{laid}
 use Rattle.laws.proofs.Writes.{sets-append, sets-front, sets-below}
 use Rattle.lines.specs.Decimal.{digit, decimal}
-use Rattle.lines.specs.Line.{endOf}
-use Rattle.lines.specs.Line.{line, fields, lettered}
+use Rattle.lines.specs.Line.{endOf, line, fields, lettered}
 use Rattle.writing.specs.Writing.{outcome, written}
 use Rattle.lines.proofs.Decimals.{decimal-one, decimal-more}
 use Rattle.lines.proofs.Bytes.{byte-at}

@@ -1,5 +1,4 @@
 -- `grid::offset` meets its contract: the definition's own arithmetic, which fits. Assumes nothing.
-use mathlib.Core.Path.{refl}
 use borrow.Author.Needs.{needs}
 use Rattle.laws.specs.Nearest.{nearest}
 use Rattle.grid.specs.Point.{offset}

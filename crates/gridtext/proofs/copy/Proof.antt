@@ -1,6 +1,6 @@
 -- `gridtext::copy` meets its contract: copied as far as the places that were passed. Assumes nothing.
 use mathlib.Core.Path.{_≡_, refl, ap, _∙_}
-use Prim.Native.Nat.{_-_, _≤_, _<_}
+use Prim.Native.Nat.{_-_, _≤_}
 use native.Mathlib.Omega.{arith}
 use lib.ListN.{length, getD, take, set, length-set}
 use Rattle.laws.specs.Room.{laid}

@@ -1,5 +1,5 @@
 -- `gridtext::fill` meets its contract: copied if all rows are well formed. Assumes nothing.
-use mathlib.Core.Path.{_≡_, refl, sym, _∙_}
+use mathlib.Core.Path.{refl}
 use native.Mathlib.Omega.{arith}
 use Rattle.gridtext.proofs.Samples.{filled-well, filled-not}
 use Prim.Native.Nat.{_*_}

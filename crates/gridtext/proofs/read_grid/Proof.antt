@@ -1,9 +1,7 @@
 -- `gridtext::read_grid` meets its contract: line 1, its checks, and the rest. Assumes nothing.
-use mathlib.Core.Path.{_≡_, refl, sym, _∙_}
+use mathlib.Core.Path.{_∙_}
 use borrow.Author.Tests.{not-true, not-false}
-use Rattle.gridtext.specs.Grid.{withHead, readGrid}
-use Rattle.gridtext.specs.Promise.{answeredHead}
-use Rattle.gridtext.specs.Grid.{refused}
+use Rattle.gridtext.specs.Grid.{withHead, readGrid, refused}
 use Rattle.gridtext.proofs.Checks.{head-refused, head-not, head-is}
 use borrow.Author.Needs.{needs}
 use Rattle.gridtext.proofs.read_grid.Statement.{statement}

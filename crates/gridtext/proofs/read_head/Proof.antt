@@ -1,5 +1,4 @@
 -- `gridtext::read_head` meets its contract: two bytes, then a row. Assumes nothing.
-use mathlib.Core.Path.{_≡_, sym, _∙_}
 use native.Mathlib.Omega.{arith}
 use borrow.Author.Tests.{not-true, not-false}
 use Rattle.gridtext.specs.Promise.{answeredHead}

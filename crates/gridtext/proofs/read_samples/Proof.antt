@@ -1,5 +1,4 @@
 -- `gridtext::read_samples` meets its contract: the room, then the rows. Assumes nothing.
-use mathlib.Core.Path.{_≡_, refl, sym, _∙_}
 use native.Mathlib.Omega.{arith}
 use Rattle.gridtext.specs.Grid.{refused}
 use Rattle.gridtext.proofs.Checks.{passed, rows-few, room-short, room-holds, rows-refused, rows-granted}

@@ -1,6 +1,6 @@
 -- `listing::hand` meets its contract: a walk of its MIR, by hand. The slice of records is looked into, one is read, and `lay` is lent both rooms.
 -- Assumes nothing.
-use Rattle.walks.proofs.Walk.{_≡_, refl, ℕ, _+_, _<_, _^_, List, [], _∷_, length, set, getD, URA, fullShare, named, w32, w64, tyPtr, Val, vunit, vint, vptr, SProp, ent, id⊢, Lft, Share, GName, Fml, ftrue, fat, flft, Memory, Routine, Heap, Calls, Loops, WpFn, Tables, Atoms, Fun, fact, givenOf, tables, tablesOf, Given, ‵, raw, _⊛_, ⋆, some, later, _$_, _∵_, !, qed, by, move, keep, drop, use1, use2, split, join, pick, rewrite, fsplit, fjoin, feqL, feqI, suffices, frame, await, done, look, look-raw, init, forget, stop, hop, fld, from, load, lit, unit-lit, of-opd, bin, addr, and-then, no-more, assigns, land, returns, enter, alloc1, alloc0, params1, pass1, pass0, free1, free0, agg, whole, sub, look-in, FmC, fmOf, WpFn-mono, owns, Is, shows, uint-makes, uint-vals, uint-tells, nothing-lawful, u32, usize, unit, RefT, sliceVal, MutSlice, ShrSlice, Room, slice-vals, mut-slice-tells, shr-slice-tells, owned, peeks, heard, nothing, onEntry, Meets, tripleOf, Contract, Triple, calls-at, ensured, lasts, entered, cited, says, needs, Stays, stay-none, stay-slice, stay-none-slice, walkOf, goes-none, goes-slice, goes-none-slice, Walks, ends-at, walked, walk-meets, yes, plain, after}
+use Rattle.walks.proofs.Walk.{_≡_, refl, ℕ, _+_, _<_, _^_, List, [], _∷_, length, set, getD, URA, fullShare, named, w32, w64, tyPtr, Val, vunit, vint, vptr, SProp, ent, id⊢, Lft, Share, GName, Fml, ftrue, fat, flft, Memory, Routine, Heap, Calls, Loops, WpFn, Tables, Atoms, Fun, fact, givenOf, tables, tablesOf, Given, ‵, raw, _⊛_, ⋆, some, later, _$_, _∵_, !, qed, by, move, keep, drop, use1, use2, split, join, pick, rewrite, fsplit, fjoin, feqL, feqI, suffices, frame, await, done, look, look-raw, init, forget, stop, hop, fld, from, load, lit, unit-lit, of-opd, bin, addr, and-then, no-more, assigns, land, returns, enter, alloc1, alloc0, params1, pass1, pass0, free1, free0, agg, whole, sub, look-in, FmC, fmOf, WpFn-mono, owns, Is, shows, uint-makes, uint-vals, uint-tells, nothing-lawful, u32, usize, unit, RefT, sliceVal, MutSlice, ShrSlice, Room, slice-vals, mut-slice-tells, shr-slice-tells, owned, peeks, heard, nothing, onEntry, Meets, tripleOf, Contract, Triple, calls-at, ensured, lasts, entered, cited, says, needs, Stays, stay-none, stay-slice, stay-none-slice, walkOf, goes-none, goes-slice, goes-none-slice, Walks, ends-at, walked, walk-meets, yes, plain}
 use Prim.Native.Nat.{_*_}
 use lib.IntN.{ℤ}
 use lib.Seq.{sets}

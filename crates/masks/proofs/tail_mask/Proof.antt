@@ -1,9 +1,8 @@
 -- `masks::tail_mask` meets its contract. The samples are walked from the row's end: the mask so far is that of those from x on. Assumes nothing.
 use mathlib.Core.Path.{_≡_, sym, _∙_}
-use Prim.Native.Nat.{_+_, _*_, _-_, _≤_}
+use Prim.Native.Nat.{_-_, _≤_}
 use native.Mathlib.Omega.{arith}
 use borrow.Author.Needs.{needs}
-use lib.ListN.{length}
 use Rattle.laws.proofs.Binary.{bit-le}
 use Rattle.grid.specs.Grid.{isAboveGrey}
 use Rattle.masks.specs.Masks.{rowAbove, maskFrom}

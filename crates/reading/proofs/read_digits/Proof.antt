@@ -1,15 +1,10 @@
 -- `reading::read_digits` meets its contract: what is read from the start is what is read from here on. Assumes nothing.
 use mathlib.Core.Path.{_≡_, refl, sym, _∙_}
-use mathlib.Core.List.{List, [], _∷_}
-use mathlib.Core.Bool.{true, false}
-use Prim.Native.Nat.{ℕ, suc, _+_, _*_, _-_, _≤_, _<_}
-use native.Mathlib.Numerals.{add-one}
+use Prim.Native.Nat.{_-_, _≤_}
 use native.Mathlib.Omega.{arith}
-use lib.ListN.{length, getD, drop, drop-of-length-le}
-use lib.Seq.{drop-cons}
+use lib.ListN.{length, drop}
 use borrow.Author.Needs.{needs}
 use borrow.Author.Tests.{not-true, not-false}
-use Rattle.lines.specs.Decimal.{isDigit}
 use Rattle.reading.specs.Reading.{digitsOn}
 use Rattle.reading.specs.Answers.{answered, Reads}
 use Rattle.lines.proofs.Decimals.{of-digit}

@@ -1,9 +1,8 @@
 -- `reading::read_field` meets its contract: a number, and the byte behind it. Assumes nothing.
-use mathlib.Core.Path.{_≡_, refl, sym, _∙_}
 use mathlib.Core.List.{[]}
 use native.Mathlib.Omega.{arith}
 use borrow.Author.Tests.{not-true, not-false}
-use Rattle.reading.specs.Answers.{answered, Reads}
+use Rattle.reading.specs.Answers.{answered}
 use Rattle.reading.proofs.Places.{reads-nothing, read-not, read-is, field-none, field-end-at, field-other-at, field-at}
 use borrow.Author.Needs.{needs}
 use Rattle.reading.proofs.read_field.Statement.{statement}

@@ -1,8 +1,8 @@
 -- `reading::read_number` meets its contract: the first byte decides. Assumes nothing.
-use mathlib.Core.Path.{_≡_, refl, sym, _∙_}
+use mathlib.Core.Path.{sym, _∙_}
 use native.Mathlib.Omega.{arith}
 use borrow.Author.Tests.{not-true, not-false}
-use Rattle.reading.specs.Answers.{answered, Reads}
+use Rattle.reading.specs.Answers.{answered}
 use Rattle.lines.proofs.Decimals.{of-digit}
 use Rattle.reading.proofs.Places.{reads-nothing, number-end-at, number-zero-at, number-none-at, number-starts-at}
 use borrow.Author.Needs.{needs}

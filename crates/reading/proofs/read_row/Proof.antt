@@ -1,14 +1,13 @@
 -- `reading::read_row` meets its contract: what stands in the room, and then the rest of the line. Assumes nothing.
-use mathlib.Core.Path.{_≡_, refl, ap, sym, _∙_}
-use mathlib.Core.List.{List, [], _∷_, _++_}
-use mathlib.Core.Bool.{true, false}
-use Prim.Native.Nat.{ℕ, zero, suc, _+_, _-_, _≤_, _<_}
+use mathlib.Core.Path.{_≡_, refl, _∙_}
+use Prim.Native.Nat.{_+_, _-_, _≤_, _<_}
 use native.Mathlib.Omega.{arith}
-use lib.ListN.{length, take, drop, set, length-set}
+use lib.ListN.{length, take, drop, length-set}
 use lib.Seq.{take-set-le}
 use borrow.Author.Needs.{needs}
 use borrow.Author.Tests.{not-true, not-false}
-use Rattle.reading.specs.Reading.{readRow, mostNumber}
+use Rattle.reading.specs.Reading.{readRow}
+use Rattle.grid.specs.Limits.{mostNumber}
 use Rattle.reading.specs.Answers.{answeredLine}
 use Rattle.reading.proofs.Places.{read-not, read-is}
 use Rattle.reading.proofs.Lines.{before, row-begins, row-done, row-stops, row-turn, stands-next}

@@ -1,14 +1,12 @@
 -- `reading::read_rows` meets its contract: the rows that stand in the room, and then the others. Assumes nothing.
 use mathlib.Core.Path.{_≡_, refl, ap, sym, _∙_}
-use mathlib.Core.List.{List, [], _∷_, _++_}
-use mathlib.Core.Bool.{true, false}
-use Prim.Native.Nat.{ℕ, zero, suc, _+_, _*_, _-_, _≤_, _<_}
+use Prim.Native.Nat.{_+_, _*_, _-_, _≤_}
 use native.Mathlib.Nat.{mul-zero}
 use native.Mathlib.Omega.{arith}
-use lib.ListN.{length, getD, take, drop, drop-of-length-le}
-use borrow.Author.Needs.{needs}
-use borrow.Author.Tests.{not-true, not-false, ne-eqb, eq-eqb}
-use Rattle.reading.specs.Reading.{rows, readRows, ahead, mostNumber}
+use lib.ListN.{length, take, drop, drop-of-length-le}
+use borrow.Author.Tests.{not-true, not-false, ne-eqb}
+use Rattle.reading.specs.Reading.{rows, readRows, ahead}
+use Rattle.grid.specs.Limits.{mostNumber}
 use Rattle.reading.specs.Answers.{answeredRows}
 use Rattle.lines.proofs.Bytes.{byte-at}
 use Rattle.reading.proofs.Places.{line-not, line-is}

@@ -1,6 +1,5 @@
 -- `viewer::tholbrina_answer` meets its contract: a refusal's number, or the answer told. Assumes nothing.
 use borrow.Author.Needs.{needs}
-use Rattle.curvature.specs.Promise.{ReadsBack}
 use Rattle.curvature.proofs.Telling.{told-answer, told-refusal}
 use Rattle.viewer.proofs.tholbrina_answer.Statement.{statement}
 use Rattle.viewer.proofs.tholbrina_answer.Tie as tie

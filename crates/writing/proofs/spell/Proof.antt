@@ -1,12 +1,12 @@
 -- `writing::spell` meets its contract: the digits behind what is left of the number are written. Assumes nothing.
-use mathlib.Core.Path.{_≡_, refl, ap, sym, _∙_}
+use mathlib.Core.Path.{_≡_, refl, ap, _∙_}
 use mathlib.Core.List.{_++_, append-nil}
 use Prim.Native.Nat.{_+_, _/_, _%_, _<_}
 use native.Mathlib.Omega.{arith}
 use lib.ListN.{length, drop, set, length-set}
 use lib.Seq.{sets}
 use Rattle.lines.specs.Decimal.{digit, decimal}
-use Rattle.writing.proofs.Fields.{nothing-behind, digits-one, digits-more, digits-some, tenth-length, tenth-whole, tenth-written, first-written}
+use Rattle.writing.proofs.Fields.{nothing-behind, digits-more, digits-some, tenth-length, tenth-whole, tenth-written, first-written}
 use Rattle.writing.proofs.spell.Statement.{statement}
 use Rattle.writing.proofs.spell.Tie as tie
 

@@ -2,10 +2,9 @@
 use mathlib.Core.Path.{_≡_, refl, ap, sym, _∙_}
 use Prim.Native.Nat.{_+_, _-_, _≤_}
 use native.Mathlib.Omega.{arith}
-use lib.ListN.{length, getD, drop}
+use lib.ListN.{length, drop}
 use lib.Seq.{sets}
 use borrow.Author.Needs.{needs}
-use Rattle.lines.specs.Decimal.{decimal}
 use Rattle.lines.specs.Line.{fields}
 use Rattle.writing.proofs.Fields.{fields-length, fields-turn, fields-end}
 use Rattle.writing.proofs.write_fields.Statement.{statement}

@@ -1,7 +1,7 @@
 -- `writing::write_lettered` meets its contract. Assumes nothing.
-use mathlib.Core.Path.{_≡_, sym, _∙_}
+use mathlib.Core.Path.{_∙_}
 use native.Mathlib.Omega.{arith}
-use lib.ListN.{length, set, length-set}
+use lib.ListN.{length-set}
 use Rattle.writing.proofs.Fields.{lettered-length, lettered-written}
 use borrow.Author.Needs.{needs}
 use Rattle.writing.proofs.write_lettered.Statement.{statement}

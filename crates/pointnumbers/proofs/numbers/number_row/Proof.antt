@@ -7,8 +7,7 @@ use lib.Count.{trailingZeros}
 use denote.Ref.{now}
 use Rattle.laws.specs.Bits.{halved}
 use Rattle.grid.specs.Grid.{axes, edgeCount}
-use Rattle.rows.specs.Rows.{sizeOf, firstEdge}
-use Rattle.rows.specs.Rows.{mostEdges}
+use Rattle.rows.specs.Rows.{sizeOf, firstEdge, mostEdges}
 use Rattle.pointnumbers.specs.Numbers.{NumberedTo}
 use Rattle.rows.proofs.Bounds.{row-small, edges-few, sample-small, next-row}
 use Rattle.rows.proofs.Cut.{row-passed, tested}

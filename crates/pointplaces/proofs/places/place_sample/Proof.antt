@@ -4,8 +4,7 @@ use mathlib.Core.Bool.{true}
 use native.Mathlib.Omega.{arith}
 use denote.Ref.{now}
 use borrow.Author.Needs.{needs}
-use Rattle.rows.specs.Rows.{sizeOf}
-use Rattle.rows.specs.Rows.{nextNumber}
+use Rattle.rows.specs.Rows.{sizeOf, nextNumber}
 use Rattle.pointplaces.specs.Places.{Rooms, rooms, Placeable}
 use Rattle.pointplaces.proofs.Placing.{SameLengths, still-placeable, sample-steps}
 use Rattle.pointplaces.proofs.places.place_sample.Statement.{statement}
