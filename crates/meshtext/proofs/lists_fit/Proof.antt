@@ -10,19 +10,16 @@ use Rattle.meshtext.proofs.lists_fit.Tie as tie
 lengths-fit-requires : tie.Need-lengths-fit-requires
 lengths-fit-requires c κs = search needs
 
-refused : {a b : Bool} → a ≡ false → false ≡ (a && b)
-refused h = rw h
-
-told : {a b : Bool} → a ≡ true → b ≡ (a && b)
-told h = rw h
+both-asked : (a b r : Bool) → a ≡ r → (r && b) ≡ (a && b)
+both-asked a b r h = rw h
 
 returns : tie.Need-returns
 unfolding listsFit
-returns c = refused (sym (c .before .lengths-fit .ensures) ∙ not-true _ (c .if1 .taken))
+returns c = both-asked _ _ false (sym (c .before .lengths-fit .ensures) ∙ not-true _ (c .if1 .taken))
 
 returns-2 : tie.Need-returns-2
 unfolding listsFit
-returns-2 c = told (sym (c .before .lengths-fit .ensures) ∙ not-false _ (c .if1 .left))
+returns-2 c = both-asked _ _ true (sym (c .before .lengths-fit .ensures) ∙ not-false _ (c .if1 .left))
 
 pub lists-fit-spec : {M : Type 1} → statement M
 lists-fit-spec = tie.close (tie.spec lengths-fit-requires returns returns-2)
