@@ -8,6 +8,7 @@ use lib.ListN.{replicate, length-replicate, getD-replicate}
 use Rattle.laws.specs.Range.{allTo, someTo}
 use Rattle.laws.specs.Mesh.{Triangle}
 use Rattle.laws.proofs.Tests.{all-at}
+use Rattle.laws.proofs.Some.{some-at}
 use Rattle.mesh.specs.Neighbours.{shareSide}
 use Rattle.sets.specs.Led.{Led, here, along}
 use Rattle.shellnumbers.specs.Numbering.{numberOf, Numbering}
