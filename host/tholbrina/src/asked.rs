@@ -13,7 +13,8 @@ tholbrina lists the voids of a casting, a sentence a void.
 Write tholbrina list VOLUME, and after it any of the options.
 VOLUME is the name of a file, or - for standard input.
 It is the text of a grid, unless its size and grey value are given.
---size NX NY NZ gives the samples a side, {LEAST_SIDE} to {MOST_SIDE}, of a volume of 16-bit numbers.
+Then it is plain samples of 16 bits, the low byte first, x fastest.
+--size NX NY NZ gives the samples a side, each {LEAST_SIDE} to {MOST_SIDE}.
 --grey G gives the grey value of the metal's surface, 0 to {most_grey}.
 --rounds K smooths the surface K times, 0 to {MOST_ROUNDS}.
 --weight W says how far a round moves a point, 0 to {MOST_WEIGHT}.

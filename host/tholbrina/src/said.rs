@@ -65,9 +65,12 @@ fn bend(shells: &Shells, answers: &[Answer], shell: usize) -> String {
     if points == 0 {
         return " It has no mean curvature.".to_string();
     }
+    let (mean, greatest) = (format!("{:.3}", sum / areas), format!("{greatest:.3}"));
+    if mean == greatest {
+        return format!(" Its mean curvature is {mean} per voxel, and no point is sharper.");
+    }
     format!(
-        " Its mean curvature is {:.3} per voxel on average over its area, and {greatest:.3} at one point, the sharpest of {points}.",
-        sum / areas
+        " Its mean curvature averages {mean} per voxel over its area, and is {greatest} at one point, the sharpest of {points}."
     )
 }
 

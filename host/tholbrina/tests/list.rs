@@ -64,12 +64,31 @@ fn one_void() {
         "0 voids, 1 shell of no volume.\nShell 0 is a shell of no volume.\n"
     );
     let bent = run(&[&words[..], &["--curvature"]].concat()).unwrap();
-    assert_eq!(bent, "TODO");
+    assert_eq!(
+        bent,
+        "1 void.\nShell 0 is a void of 0.167 voxels. Its mean curvature is 2.000 per voxel, and no point is sharper.\n"
+    );
     let flat = run(&[&smoothed[..], &["--curvature"]].concat()).unwrap();
     assert_eq!(
         flat,
         "0 voids, 1 shell of no volume.\nShell 0 is a shell of no volume. It has no mean curvature.\n"
     );
+}
+
+#[test]
+fn how_sharply_a_void_bends() {
+    let casting = concat!(env!("CARGO_MANIFEST_DIR"), "/../../examples/casting.txt");
+    let list = run(&["list", casting, "--curvature"]).unwrap();
+    let lines: Vec<&str> = list.lines().collect();
+    assert_eq!(
+        lines[..3],
+        [
+            "9 voids.",
+            "Shell 0 is a void of 12.172 voxels. Its mean curvature averages 0.654 per voxel over its area, and is 1.405 at one point, the sharpest of 54.",
+            "Shell 1 is a void of 2.909 voxels. Its mean curvature averages 0.982 per voxel over its area, and is 2.678 at one point, the sharpest of 30.",
+        ]
+    );
+    assert_eq!(lines.len(), 10);
 }
 
 #[test]

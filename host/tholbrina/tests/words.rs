@@ -29,7 +29,8 @@ tholbrina lists the voids of a casting, a sentence a void.
 Write tholbrina list VOLUME, and after it any of the options.
 VOLUME is the name of a file, or - for standard input.
 It is the text of a grid, unless its size and grey value are given.
---size NX NY NZ gives the samples a side, 2 to 64, of a volume of 16-bit numbers.
+Then it is plain samples of 16 bits, the low byte first, x fastest.
+--size NX NY NZ gives the samples a side, each 2 to 64.
 --grey G gives the grey value of the metal's surface, 0 to 65535.
 --rounds K smooths the surface K times, 0 to 100.
 --weight W says how far a round moves a point, 0 to 256.
