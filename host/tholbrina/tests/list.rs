@@ -186,13 +186,19 @@ fn casting(voids: usize) -> Vec<u16> {
         ];
         let middle = cell.map(|c| 1.0 + apart * (c as f64 + 0.5));
         let half = [0.36, 0.30, 0.33].map(|share| (share * apart).max(1.0));
-        for (at, sample) in samples.iter_mut().enumerate() {
-            let place = [at % 64, at / 64 % 64, at / 4096];
-            let distance: f64 = (0..3)
-                .map(|axis| ((place[axis] as f64 - middle[axis]) / half[axis]).powi(2))
-                .sum();
-            if distance < 1.0 {
-                *sample = 100;
+        let [xs, ys, zs] = [0, 1, 2].map(|axis| {
+            let (low, high) = (middle[axis] - half[axis], middle[axis] + half[axis]);
+            low as usize..=high as usize
+        });
+        for (z, y) in zs.flat_map(|z| ys.clone().map(move |y| (z, y))) {
+            for x in xs.clone() {
+                let place = [x, y, z];
+                let distance: f64 = (0..3)
+                    .map(|axis| ((place[axis] as f64 - middle[axis]) / half[axis]).powi(2))
+                    .sum();
+                if distance < 1.0 {
+                    samples[x + 64 * (y + 64 * z)] = 100;
+                }
             }
         }
     }

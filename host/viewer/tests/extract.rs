@@ -325,21 +325,31 @@ fn the_limit_on_points() {
     refused(sides, 1, &samples, roomy(sides), 4);
 }
 
-/// Holes made up in more and more of a full grid: the triangles pass their limit while the points are still within theirs.
+/// Holes made up in more and more of a full grid: the triangles pass their limit while the points are still within theirs. Where they do is searched
+/// for, so that of the grids that are compared two are one hole apart, the first granted and the second refused.
 #[test]
 fn the_limit_on_triangles() {
     let sides = [64, 64, 64];
     let mut seed = Seed::new(6);
     let hole: Vec<bool> = (0..count(sides)).map(|_| seed.below(100) < 30).collect();
-    let mut numbers = Vec::new();
-    for holes in (180_000..=196_000).step_by(1_000) {
-        let samples: Vec<u16> = (0..count(sides))
+    let samples = |holes: usize| -> Vec<u16> {
+        (0..count(sides))
             .map(|s| if s < holes && hole[s] { 0 } else { 1000 })
-            .collect();
-        numbers.push(same(sides, 500, &samples, roomy(sides)).0.number);
+            .collect()
+    };
+    let (mut granted, mut refused) = (180_000, 196_000);
+    while refused - granted > 1 {
+        let middle = (granted + refused) / 2;
+        match viewer::Surface::extract(sides, 500, &samples(middle)) {
+            Ok(_) => granted = middle,
+            Err(_) => refused = middle,
+        }
     }
-    assert_eq!(numbers.first(), Some(&0));
-    assert!(numbers.contains(&5), "{numbers:?}");
+    for (holes, number) in [(180_000, 0), (granted, 0), (refused, 5), (196_000, 5)] {
+        let (found, _) = same(sides, 500, &samples(holes), roomy(sides));
+        assert_eq!(found.number, number, "{holes} holes");
+        assert!(holes != granted || found.triangles > 499_980);
+    }
 }
 
 #[test]
