@@ -131,12 +131,10 @@ fn reference() -> Bounds {
         .filter(|&sides| small(sides))
         .map(|[x, y, z]| x * y * z)
         .max();
+    let least_side = (0..100).find(|&n| side(n));
     use reference::mesh::{MOST_COORDINATE, MOST_POINTS, MOST_TRIANGLES};
     [
-        (
-            "least_side",
-            (0..).find(|&n| side(n)).expect("a side is granted"),
-        ),
+        ("least_side", least_side.expect("a side is granted")),
         ("most_side", last(2, side)),
         ("most_points", MOST_POINTS as u64),
         ("most_triangles", MOST_TRIANGLES as u64),
