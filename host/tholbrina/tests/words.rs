@@ -4,7 +4,7 @@ use std::collections::BTreeMap;
 use std::process::{Command, Output};
 
 /// Starts the tool, under the emulator that tools/cargo names where the machine is no x86-64.
-fn tool(words: &[&str]) -> Output {
+fn tool(words: &[impl AsRef<std::ffi::OsStr>]) -> Output {
     let runner = std::env::var("CARGO_TARGET_X86_64_UNKNOWN_LINUX_GNU_RUNNER").unwrap_or_default();
     let mut start = runner
         .split_whitespace()
@@ -91,14 +91,32 @@ fn a_wrong_word_is_named() {
             "65536 after --grey is above 65535",
         ),
     ] {
-        let output = tool(words);
-        assert_eq!(output.status.code(), Some(1), "{words:?}");
-        assert_eq!(output.stdout, b"", "{words:?}");
+        let words: Vec<String> = words.iter().map(|word| word.to_string()).collect();
         assert_eq!(
-            String::from_utf8_lossy(&output.stderr),
-            format!("{start}; tholbrina --help says what can be written.\n")
+            tholbrina::run(&words, &mut std::io::empty()),
+            Err(format!(
+                "{start}; tholbrina --help says what can be written."
+            ))
         );
     }
+    let output = tool(&["show"]);
+    assert_eq!(output.status.code(), Some(1));
+    assert_eq!(output.stdout, b"");
+    assert_eq!(
+        output.stderr,
+        b"show is not a command; tholbrina --help says what can be written.\n"
+    );
+}
+
+#[test]
+fn a_word_that_is_no_text() {
+    use std::os::unix::ffi::OsStrExt;
+    let output = tool(&[std::ffi::OsStr::from_bytes(b"caf\xe9")]);
+    assert_eq!(output.status.code(), Some(1));
+    assert_eq!(
+        String::from_utf8_lossy(&output.stderr),
+        "caf\u{fffd} is not plain text; give the volume on standard input.\n"
+    );
 }
 
 /// "2 to 64" in a sentence.
