@@ -1,9 +1,8 @@
 /* From a volume to a spoken list: a block of metal with two voids, 12 samples a side, said in plain sentences. */
-#include "../include/tholbrina.h"
-
 #include <inttypes.h>
 #include <stdio.h>
 #include <stdlib.h>
+#include <tholbrina.h>
 
 enum { side = 12, samples = side * side * side };
 

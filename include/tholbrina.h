@@ -16,6 +16,9 @@
 #ifndef THOLBRINA_H
 #define THOLBRINA_H
 
+/* The version of the library, the header and the programs. A change of a call, a record or a text raises the second number. */
+#define THOLBRINA_VERSION "0.1.0"
+
 #include <stddef.h>
 #include <stdint.h>
 

@@ -28,7 +28,7 @@ use lib.Ieee.{eq}
 use Rattle.measures.specs.Sides.{between, cross, squared, crossAt}
 use Rattle.sums.specs.Sums.{addTriangle, sumAfter}
 use Rattle.curvature.specs.Answers.{answerOf, answer}
-use Rattle.curvature.specs.Curved.{sumOf as sumAt, answerFor}
+use Rattle.curvature.specs.Curved.{sumsFor as sumAt, answerFor}
 use Rattle.figures.specs.Centre.{edges, points, marks, triangles, smoothed, CentreFigure}
 
 -- the mesh: an octahedron round the centre

@@ -1,9 +1,39 @@
 //! The words of the command line.
 
-pub const USAGE: &str = "Usage: tholbrina list VOLUME [--size NX NY NZ --grey G] [--rounds K] [--weight W] [--mesh] [--curvature], \
-where VOLUME is a file or - for standard input, of 16-bit little-endian samples if the size and grey value are given, else the text of a grid.";
+use viewer::{LEAST_SIDE, MOST_ROUNDS, MOST_SIDE, MOST_WEIGHT};
 
-pub struct Asked {
+/// The end of a sentence about a wrong word.
+const HELP: &str = "tholbrina --help says what can be written";
+
+/// What --help says: short lines, one option a line, each a sentence of its own.
+pub fn help() -> String {
+    format!(
+        "\
+tholbrina lists the voids of a casting, a sentence a void.
+Write tholbrina list VOLUME, and after it any of the options.
+VOLUME is the name of a file, or - for standard input.
+It is the text of a grid, unless its size and grey value are given.
+Then it is plain samples of 16 bits, the low byte first, x fastest.
+--size NX NY NZ gives the samples a side, each {LEAST_SIDE} to {MOST_SIDE}.
+--grey G gives the grey value of the metal's surface, 0 to {most_grey}.
+--rounds K smooths the surface K times, 0 to {MOST_ROUNDS}.
+--weight W says how far a round moves a point, 0 to {MOST_WEIGHT}.
+--curvature adds how sharply each shell bends.
+--mesh writes the mesh as text in place of the list.
+--help says these lines.
+--version says the version.
+",
+        most_grey = u16::MAX,
+    )
+}
+
+pub enum Asked {
+    Help,
+    Version,
+    List(List),
+}
+
+pub struct List {
     /// The file, or - for standard input.
     pub volume: String,
     /// The sides and the grey value of a file of plain samples.
@@ -14,20 +44,25 @@ pub struct Asked {
     pub curvature: bool,
 }
 
+fn number(name: &str, rest: &mut std::slice::Iter<'_, String>) -> Result<u32, String> {
+    let word = rest
+        .next()
+        .ok_or_else(|| format!("A number is missing after {name}; {HELP}."))?;
+    word.parse()
+        .map_err(|_| format!("{word} after {name} is not a whole number; {HELP}."))
+}
+
 pub fn asked(words: &[String]) -> Result<Asked, String> {
     let mut rest = words.iter();
-    if rest.next().map(String::as_str) != Some("list") {
-        return Err(USAGE.to_string());
+    match rest.next().map(String::as_str) {
+        Some("list") => {}
+        Some("--help") => return Ok(Asked::Help),
+        Some("--version") => return Ok(Asked::Version),
+        Some(other) => return Err(format!("{other} is not a command; {HELP}.")),
+        None => return Err(format!("A command is missing; {HELP}.")),
     }
-    let number = |name: &str, rest: &mut std::slice::Iter<'_, String>| -> Result<u32, String> {
-        let word = rest
-            .next()
-            .ok_or_else(|| format!("A number is missing after {name}. {USAGE}"))?;
-        word.parse()
-            .map_err(|_| format!("{word} after {name} is not a whole number."))
-    };
     let (mut volume, mut size, mut grey) = (None, None, None);
-    let mut asked = Asked {
+    let mut list = List {
         volume: String::new(),
         plain: None,
         rounds: None,
@@ -45,29 +80,31 @@ pub fn asked(words: &[String]) -> Result<Asked, String> {
                 ])
             }
             "--grey" => grey = Some(number(word, &mut rest)?),
-            "--rounds" => asked.rounds = Some(number(word, &mut rest)?),
-            "--weight" => asked.weight = Some(number(word, &mut rest)?),
-            "--mesh" => asked.mesh = true,
-            "--curvature" => asked.curvature = true,
-            "-" => volume = Some(word.clone()),
-            other if other.starts_with('-') => {
-                return Err(format!("{other} is not known. {USAGE}"));
+            "--rounds" => list.rounds = Some(number(word, &mut rest)?),
+            "--weight" => list.weight = Some(number(word, &mut rest)?),
+            "--mesh" => list.mesh = true,
+            "--curvature" => list.curvature = true,
+            "--help" => return Ok(Asked::Help),
+            "--version" => return Ok(Asked::Version),
+            other if other.starts_with('-') && other != "-" => {
+                return Err(format!("{other} is not an option; {HELP}."));
             }
             _ if volume.is_some() => {
-                return Err(format!("{word} is one volume too many. {USAGE}"));
+                return Err(format!("{word} is one volume too many; {HELP}."));
             }
             _ => volume = Some(word.clone()),
         }
     }
-    asked.volume = volume.ok_or_else(|| format!("The volume is missing. {USAGE}"))?;
-    asked.plain = match (size, grey) {
+    list.volume = volume.ok_or_else(|| format!("The volume is missing after list; {HELP}."))?;
+    list.plain = match (size, grey) {
         (None, None) => None,
         (Some(sides), Some(grey)) => {
             let grey = u16::try_from(grey)
-                .map_err(|_| format!("The grey value {grey} is above 65535."))?;
+                .map_err(|_| format!("{grey} after --grey is above {}; {HELP}.", u16::MAX))?;
             Some((sides, grey))
         }
-        _ => return Err(format!("--size and --grey go together. {USAGE}")),
+        (Some(_), None) => return Err(format!("--size is there without --grey; {HELP}.")),
+        (None, Some(_)) => return Err(format!("--grey is there without --size; {HELP}.")),
     };
-    Ok(asked)
+    Ok(Asked::List(list))
 }

@@ -6,11 +6,16 @@ mod volume;
 
 use std::io::Read;
 
+use asked::Asked;
 use viewer::{Refusal, Surface};
 
 /// What to write to standard output, or the one sentence that says what is wrong and what to do.
 pub fn run(words: &[String], standard_input: &mut dyn Read) -> Result<String, String> {
-    let asked = asked::asked(words)?;
+    let asked = match asked::asked(words)? {
+        Asked::Help => return Ok(asked::help()),
+        Asked::Version => return Ok(format!("tholbrina {}\n", env!("THOLBRINA_VERSION"))),
+        Asked::List(list) => list,
+    };
     let volume = volume::read(&asked, standard_input)?;
     let raw = Surface::extract(volume.sides, volume.grey, &volume.samples).map_err(refused)?;
     let surface = raw.smooth(volume.rounds, volume.weight).map_err(refused)?;

@@ -3,9 +3,21 @@
 use std::io::Write;
 use std::process::ExitCode;
 
+/// The words of the command line, which may hold bytes that are no text.
+fn words() -> Result<Vec<String>, String> {
+    std::env::args_os()
+        .skip(1)
+        .map(|word| {
+            word.into_string().map_err(|word| {
+                let shown = word.to_string_lossy();
+                format!("{shown} is not plain text; give the volume on standard input.")
+            })
+        })
+        .collect()
+}
+
 fn main() -> ExitCode {
-    let words: Vec<String> = std::env::args().skip(1).collect();
-    match tholbrina::run(&words, &mut std::io::stdin()) {
+    match words().and_then(|words| tholbrina::run(&words, &mut std::io::stdin())) {
         Ok(text) => match std::io::stdout().write_all(text.as_bytes()) {
             Ok(()) => ExitCode::SUCCESS,
             Err(_) => ExitCode::FAILURE,

@@ -1,4 +1,4 @@
-//! The list as it is heard: the count first, then one plain sentence a shell. No table, no colour, every number once.
+//! The list as it is heard: the count first, then a line of plain sentences a shell. No table, no colour, every number once.
 
 use std::fmt::Write;
 
@@ -50,24 +50,27 @@ fn count(records: &[Shell]) -> String {
     parts.join(", ")
 }
 
-/// Least, greatest and area-weighted mean of the mean curvature of a shell's bent points, a voxel.
+/// The mean curvature of a shell's bent points, a voxel: on average, each point with its area for a weight, and at the sharpest.
 fn bend(shells: &Shells, answers: &[Answer], shell: usize) -> String {
-    let (mut least, mut greatest, mut sum, mut areas) = (f64::INFINITY, 0.0f64, 0.0, 0.0);
+    let (mut points, mut greatest, mut sum, mut areas) = (0, 0.0f64, 0.0, 0.0);
     for (&number, answer) in shells.numbers.iter().zip(answers) {
         if let (true, &Answer::Bent(area, [x, y, z])) = (number as usize == shell, answer) {
             let bend = 256.0 * (x * x + y * y + z * z).sqrt();
-            least = least.min(bend);
+            points += 1;
             greatest = greatest.max(bend);
             sum += area * bend;
             areas += area;
         }
     }
-    if areas == 0.0 {
-        return ", without a mean curvature".to_string();
+    if points == 0 {
+        return " It has no mean curvature.".to_string();
+    }
+    let (mean, greatest) = (format!("{:.3}", sum / areas), format!("{greatest:.3}"));
+    if mean == greatest {
+        return format!(" Its mean curvature is {mean} per voxel, and no point is sharper.");
     }
     format!(
-        ", mean curvature from {least:.3} to {greatest:.3} and on average {:.3} per voxel",
-        sum / areas
+        " Its mean curvature averages {mean} per voxel over its area, and is {greatest} at one point, the sharpest of {points}."
     )
 }
 
@@ -86,7 +89,7 @@ pub fn list(shells: &Shells, answers: Option<&[Answer]>) -> String {
             _ => "",
         };
         let bend = answers.map_or(String::new(), |answers| bend(shells, answers, n));
-        writeln!(text, "Shell {n} is {what}{touch}{bend}.").expect("a string takes any text");
+        writeln!(text, "Shell {n} is {what}{touch}.{bend}").expect("a string takes any text");
     }
     text
 }

@@ -2,7 +2,7 @@
 
 use std::io::Read;
 
-use crate::asked::Asked;
+use crate::asked::List;
 use crate::refused;
 use viewer::{Refusal, LEAST_SIDE, MOST_SIDE};
 
@@ -14,7 +14,7 @@ pub struct Volume {
     pub samples: Vec<u16>,
 }
 
-pub fn read(asked: &Asked, standard_input: &mut dyn Read) -> Result<Volume, String> {
+pub fn read(asked: &List, standard_input: &mut dyn Read) -> Result<Volume, String> {
     let bytes = bytes(&asked.volume, standard_input)?;
     let mut volume = match asked.plain {
         Some((sides, grey)) => plain(sides, grey, &bytes)?,

@@ -325,21 +325,34 @@ fn the_limit_on_points() {
     refused(sides, 1, &samples, roomy(sides), 4);
 }
 
-/// Holes made up in more and more of a full grid: the triangles pass their limit while the points are still within theirs.
+/// Holes made up in more and more of a full grid: the triangles pass their limit while the points are still within theirs. Where they do is searched
+/// for too, so that two of the grids that are compared are one hole apart, the first granted and the second refused.
 #[test]
 fn the_limit_on_triangles() {
     let sides = [64, 64, 64];
     let mut seed = Seed::new(6);
     let hole: Vec<bool> = (0..count(sides)).map(|_| seed.below(100) < 30).collect();
-    let mut numbers = Vec::new();
-    for holes in (180_000..=196_000).step_by(1_000) {
-        let samples: Vec<u16> = (0..count(sides))
+    let samples = |holes: usize| -> Vec<u16> {
+        (0..count(sides))
             .map(|s| if s < holes && hole[s] { 0 } else { 1000 })
-            .collect();
-        numbers.push(same(sides, 500, &samples, roomy(sides)).0.number);
-    }
+            .collect()
+    };
+    let number = |holes: usize| same(sides, 500, &samples(holes), roomy(sides)).0.number;
+    let numbers: Vec<u32> = (180_000..=196_000).step_by(1_000).map(number).collect();
     assert_eq!(numbers.first(), Some(&0));
     assert!(numbers.contains(&5), "{numbers:?}");
+
+    let (mut granted, mut refused) = (180_000, 196_000);
+    while refused - granted > 1 {
+        let middle = (granted + refused) / 2;
+        match viewer::Surface::extract(sides, 500, &samples(middle)) {
+            Ok(_) => granted = middle,
+            Err(_) => refused = middle,
+        }
+    }
+    let (found, _) = same(sides, 500, &samples(granted), roomy(sides));
+    assert!(found.number == 0 && found.triangles > 499_980);
+    assert_eq!(number(refused), 5);
 }
 
 #[test]

@@ -22,13 +22,19 @@ fn casting(seed: &mut Seed, voids: usize) -> Vec<u16> {
         let middle = at.map(|c| 2.0 + cell * (c as f64 + 0.5));
         let half: [f64; 3] =
             std::array::from_fn(|_| cell * (0.25 + seed.below(100) as f64 / 800.0));
-        for (place, sample) in samples.iter_mut().enumerate() {
-            let here = [place % SIDE, place / SIDE % SIDE, place / (SIDE * SIDE)];
-            let distance: f64 = (0..3)
-                .map(|axis| ((here[axis] as f64 - middle[axis]) / half[axis]).powi(2))
-                .sum();
-            if distance < 1.0 {
-                *sample = 100 + seed.below(200) as u16;
+        let [xs, ys, zs] = [0, 1, 2].map(|axis| {
+            let (low, high) = (middle[axis] - half[axis], middle[axis] + half[axis]);
+            low as usize..=high as usize
+        });
+        for (z, y) in zs.flat_map(|z| ys.clone().map(move |y| (z, y))) {
+            for x in xs.clone() {
+                let here = [x, y, z];
+                let distance: f64 = (0..3)
+                    .map(|axis| ((here[axis] as f64 - middle[axis]) / half[axis]).powi(2))
+                    .sum();
+                if distance < 1.0 {
+                    samples[x + SIDE * (y + SIDE * z)] = 100 + seed.below(200) as u16;
+                }
             }
         }
     }
