@@ -12,7 +12,8 @@ use Rattle.laws.specs.Values.{listTo}
 use Rattle.laws.proofs.Rooms.{laid-read}
 use Rattle.laws.proofs.Values.{length-list}
 use Rattle.mesh.specs.Mesh.{trianglesOf}
-use Rattle.mesh.specs.Check.{meshNumber}
+use Rattle.grid.specs.Limits.{mostPoints, mostTriangles}
+use Rattle.mesh.specs.Check.{lengthsFit, meshNumber}
 use Rattle.mesh.proofs.Passed.{passed}
 use Rattle.records.specs.declared.Shell.{Shell}
 use Rattle.shellnumbers.specs.Numbering.{Numbering}
@@ -77,15 +78,15 @@ module _ (points triangles marks : List ℕ) (o : Outcome) (records : List ℕ) 
   -- what is written of a small mesh is what is to be printed
   module _ (edges room left : List ℕ) (number long : ℕ) (small : SmallMesh points edges marks triangles (length room)) where
     lists-pass : listsFit (length points) (length edges) (length marks) (length triangles) ≡ true
-    unfolding listsFit
+    unfolding listsFit lengthsFit
     lists-pass =
         let p = passed points triangles marks (small .passes) in
         rw (
           eq-eqb (length points) (3 * length marks) (p .threes),
-          eq-eqb (length edges) (length marks) (small .edged),
           eq-eqb (length triangles % 3) 0 (omega (arith, p .whole)),
-          le-leb (length marks) 250000 (p .few),
-          le-leb (length triangles / 3) 500000 (p .triangles-few),
+          le-leb (length marks) mostPoints (p .few),
+          le-leb (length triangles / 3) mostTriangles (p .triangles-few),
+          eq-eqb (length edges) (length marks) (small .edged),
         )
 
     records-pass : recordsFit (length (take (4 * o .shells) records)) (length (take (o .shells) volumes)) ≡ true
@@ -95,7 +96,7 @@ module _ (points triangles marks : List ℕ) (o : Outcome) (records : List ℕ) 
           numbers-many,
           volumes-many,
           eq-eqb (4 * o .shells) (4 * o .shells) refl,
-          le-leb (o .shells) 250000 (omega (arith, t .most)),
+          le-leb (o .shells) mostPoints (omega (arith, t .most)),
         )
 
     pub mesh-printed : Holds (length marks) (length triangles / 3) (length (take (o .shells) volumes)) (length room) number

@@ -6,7 +6,7 @@ use Prim.Native.Nat.{ℕ, _*_, _≤_, min}
 use native.Mathlib.Omega.{arith}
 use lib.ListN.{length}
 use borrow.Author.Tests.{eq-eqb, le-ltb}
-use Rattle.grid.specs.Limits.{mostSmall}
+use Rattle.grid.specs.Limits.{mostPoints, mostTriangles, mostSmall}
 use Rattle.grid.specs.Sides.{sidesFit}
 use Rattle.grid.specs.Grid.{Size, axes, isAboveGrey, sampleCount, edgeCount}
 use Rattle.grid.specs.Work.{size}
@@ -39,6 +39,6 @@ module _ (nx ny nz grey : ℕ) (samples : List ℕ) (r : Rooms) (fit : sidesFit 
         fit,
         eq-eqb (length samples) (sampleCount n) all,
         eq-eqb (length (r .work)) (edgeCount axes n) (hold .work ∙ ap (λ k. 3 * k) all),
-        le-ltb (min 250000 (pointRoom n grey samples r)) (length (pointList n grey samples r)) (omega (arith, points-few, hold .points, hold .edges, hold .marks)),
-        le-ltb (min 500000 (triangleRoom n grey samples r)) (length (triangleList n grey samples r)) (omega (arith, triangles-few, hold .triangles)),
+        le-ltb (min mostPoints (pointRoom n grey samples r)) (length (pointList n grey samples r)) (omega (arith, points-few, hold .points, hold .edges, hold .marks)),
+        le-ltb (min mostTriangles (triangleRoom n grey samples r)) (length (triangleList n grey samples r)) (omega (arith, triangles-few, hold .triangles)),
       )
