@@ -29,13 +29,13 @@ use Rattle.mesh.specs.Neighbours.{shareSide}
 use Rattle.rounds.specs.Round.{rounds}
 use Rattle.records.specs.Record.{anyOf, diagonals, determinant, sixfold, pointsUnder, namesUnder, trianglesUnder, recordFrom}
 use Rattle.shellnumbers.proofs.OneShell.{one-shell}
-use Rattle.closed.specs.Left.{Mesh, smoothed}
+use Rattle.closed.specs.Left.{Mesh}
 use Rattle.grid.specs.Limits.{mostNumber}
 use Rattle.gridtext.specs.Grid.{smoothingFits, headNumber}
 use Rattle.gridtext.specs.GridText.{Small}
 use Rattle.figures.proofs.Examples.{exampleInput, exampleNumbers, exampleSamples, exampleOutput, example-text, example-output}
 use Rattle.small.specs.Answer.{gridEdges, extractedMesh, smoothedMesh, Answers, printed}
-use Rattle.printing.specs.Prints.{Prints}
+use Rattle.printing.specs.Prints.{afterRounds, Prints}
 use Rattle.small.proofs.OneAnswer.{one-answer}
 
 -- the grid, its points and its mesh, computed
@@ -57,7 +57,7 @@ abbrev corner : Mesh
 corner = record { points = 128 ∷ 0 ∷ 0 ∷ 0 ∷ 128 ∷ 0 ∷ 0 ∷ 0 ∷ 128 ∷ []; triangles = 0 ∷ 1 ∷ 2 ∷ []; marks = 1 ∷ 1 ∷ 1 ∷ [] }
 
 mesh-is : smoothedMesh exampleNumbers exampleSamples ≡ corner
-unfolding exampleNumbers exampleSamples smoothedMesh smoothed rounds extractedMesh gridEdges pointEdges keepTo joinTo crossed crossedFrom isThere fitsAlong coordinate side otherEnd site isAboveGrey xor flatMap place placeFrom offset nearest mark someFace onFace onFaceFrom isOutermost flat mesh edgeMesh joinBox cubeTriangles caseAt caseOf bits cornerSite triangles fan loops segments segmentsOf faceSegments cuts wayRound isAbove bit gridEdge number countTo sumTo
+unfolding exampleNumbers exampleSamples smoothedMesh afterRounds rounds extractedMesh gridEdges pointEdges keepTo joinTo crossed crossedFrom isThere fitsAlong coordinate side otherEnd site isAboveGrey xor flatMap place placeFrom offset nearest mark someFace onFace onFaceFrom isOutermost flat mesh edgeMesh joinBox cubeTriangles caseAt caseOf bits cornerSite triangles fan loops segments segmentsOf faceSegments cuts wayRound isAbove bit gridEdge number countTo sumTo
 mesh-is = refl
 
 -- one shell, and the text
