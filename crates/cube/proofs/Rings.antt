@@ -8,7 +8,7 @@ use Rattle.laws.specs.Range.{joinTo}
 use Rattle.laws.specs.Values.{listTo}
 use Rattle.laws.proofs.Values.{list-at}
 use Rattle.cube.specs.Answer.{cubeFaces}
-use Rattle.cube.specs.Ring.{wayTo, cross, squared, sidesOf, turnsOf, cornerAlong, outward, GoesRound}
+use Rattle.cube.specs.Ring.{wayTo, crossWay, squaredWay, sidesOf, turnsOf, cornerAlong, outward, GoesRound}
 
 abbrev ring : ℕ → List ℕ
 ring f = getD cubeFaces f []
@@ -21,18 +21,18 @@ every-corner : listTo 6 (λ f. map (cornerAlong (f / 2)) (ring f)) ≡ listTo 6 
 unfolding listTo joinTo cornerAlong
 every-corner = refl
 
-every-side : listTo 6 (λ f. map squared (sidesOf (ring f))) ≡ listTo 6 (λ f. replicate 4 (pos 1))
-unfolding listTo joinTo squared sidesOf wayTo
+every-side : listTo 6 (λ f. map squaredWay (sidesOf (ring f))) ≡ listTo 6 (λ f. replicate 4 (pos 1))
+unfolding listTo joinTo squaredWay sidesOf wayTo
 every-side = refl
 
 every-turn : listTo 6 (λ f. turnsOf (sidesOf (ring f))) ≡ listTo 6 (λ f. replicate 4 (outward (f / 2) (f % 2)))
-unfolding listTo joinTo turnsOf cross sidesOf wayTo outward
+unfolding listTo joinTo turnsOf crossWay sidesOf wayTo outward
 every-turn = refl
 
 pub rings-go-round : (f : ℕ) → f < 6 → GoesRound (f / 2) (f % 2) (ring f)
 rings-go-round f l =
     record {
       corners = at-face (λ f. map (cornerAlong (f / 2)) (ring f)) (λ f. replicate 4 (f % 2)) every-corner f l;
-      edges = at-face (λ f. map squared (sidesOf (ring f))) (λ f. replicate 4 (pos 1)) every-side f l;
+      edges = at-face (λ f. map squaredWay (sidesOf (ring f))) (λ f. replicate 4 (pos 1)) every-side f l;
       turns = at-face (λ f. turnsOf (sidesOf (ring f))) (λ f. replicate 4 (outward (f / 2) (f % 2))) every-turn f l;
     }

@@ -23,16 +23,16 @@ wayTo c d =
       z = pos (cornerZ d) -ℤ pos (cornerZ c);
     }
 
-unfoldable pub cross : Way → Way → Way
-cross u v =
+unfoldable pub crossWay : Way → Way → Way
+crossWay u v =
     record {
       x = u .y *ℤ v .z -ℤ u .z *ℤ v .y;
       y = u .z *ℤ v .x -ℤ u .x *ℤ v .z;
       z = u .x *ℤ v .y -ℤ u .y *ℤ v .x;
     }
 
-unfoldable pub squared : Way → ℤ
-squared u = u .x *ℤ u .x +ℤ u .y *ℤ u .y +ℤ u .z *ℤ u .z
+unfoldable pub squaredWay : Way → ℤ
+squaredWay u = u .x *ℤ u .x +ℤ u .y *ℤ u .y +ℤ u .z *ℤ u .z
 
 -- the sides of a ring: from each corner to the next, and from the last back to the first
 waysOn : ℕ → ℕ → List ℕ → List Way
@@ -46,8 +46,8 @@ sidesOf (c ∷ cs) = waysOn c c cs
 
 -- the turns of a ring, given its sides: the cross product of each side and the next, and of the last and the first
 turnsOn : Way → Way → List Way → List Way
-turnsOn first u [] = cross u first ∷ []
-turnsOn first u (v ∷ vs) = cross u v ∷ turnsOn first v vs
+turnsOn first u [] = crossWay u first ∷ []
+turnsOn first u (v ∷ vs) = crossWay u v ∷ turnsOn first v vs
 
 unfoldable pub turnsOf : List Way → List Way
 unfolding turnsOn
@@ -71,6 +71,6 @@ pub record GoesRound (axis at : ℕ) (ring : List ℕ) : Type 0 where
   -- it has four corners, all on the face
   pub corners : map (cornerAlong axis) ring ≡ replicate 4 at
   -- each side is an edge of the cube: its squared length is 1
-  pub edges : map squared (sidesOf ring) ≡ replicate 4 (pos 1)
+  pub edges : map squaredWay (sidesOf ring) ≡ replicate 4 (pos 1)
   -- at each corner it turns left as seen from outside: the cross product of the side that comes and the side that leaves is the outward normal, by the right hand
   pub turns : turnsOf (sidesOf ring) ≡ replicate 4 (outward axis at)

@@ -16,8 +16,8 @@ use Rattle.measures.specs.declared.vectors.Vector.{Vector}
 use Rattle.measures.specs.Vectors.{plusZero, numbersOf, vectorAt}
 use Rattle.sums.specs.Sums.{start, sumAfter}
 use Rattle.sums.specs.Rooms.{sumAt}
-use Rattle.curvature.specs.Answers.{answer, storedVector}
-use Rattle.curvature.specs.Curved.{sumsFor, answerFor, granted, outcome}
+use Rattle.curvature.specs.Answers.{answerFrom, storedVector}
+use Rattle.curvature.specs.Curved.{sumsFor, answerFor, granted, curved}
 use Rattle.curvature.specs.Promise.{left}
 
 -- three numbers of a room, by the vector that they are
@@ -50,23 +50,23 @@ rows-of-three n f vectors l h =
     ∙ sym (ap (λ k. getD (joinTo n (λ y. numbersOf (f y))) k nan) row ∙ entry-at 3 (λ y. numbersOf (f y)) (λ k. refl) n x r nan small (omega arith)))
 
 module _ (points triangles marks : List ℕ) (areas vectors : List Float) where
-  pub refused-mesh : (n : ℕ) → n ≡ meshNumber points triangles marks → (n ≡ 0 → ⊥) → left n areas vectors ≡ outcome points triangles marks areas vectors
-  unfolding outcome
+  pub refused-mesh : (n : ℕ) → n ≡ meshNumber points triangles marks → (n ≡ 0 → ⊥) → left n areas vectors ≡ curved points triangles marks areas vectors
+  unfolding curved
   refused-mesh n e h = rw (sym e, ne-eqb n 0 h)
 
   module _ (pass : meshNumber points triangles marks ≡ 0) where
-    pub refused-areas : (length areas ≡ length marks → ⊥) → left 3 areas vectors ≡ outcome points triangles marks areas vectors
-    unfolding outcome
+    pub refused-areas : (length areas ≡ length marks → ⊥) → left 3 areas vectors ≡ curved points triangles marks areas vectors
+    unfolding curved
     refused-areas h = rw (pass, ne-eqb _ _ h)
 
-    pub refused-vectors : (length vectors ≡ 3 * length marks → ⊥) → left 3 areas vectors ≡ outcome points triangles marks areas vectors
-    unfolding outcome
+    pub refused-vectors : (length vectors ≡ 3 * length marks → ⊥) → left 3 areas vectors ≡ curved points triangles marks areas vectors
+    unfolding curved
     refused-vectors h = rw (pass, ne-eqb _ _ h, and-false)
 
     pub granted-rooms : length areas ≡ length marks → length vectors ≡ 3 * length marks → (areas' vectors' : List Float) → length areas' ≡ length marks → length vectors' ≡ 3 * length marks
         → ((x : ℕ) → x < length marks → getD areas' x nan ≡ sumsFor points triangles x .area)
-        → ((x : ℕ) → x < length marks → vectorAt vectors' (3 * x) ≡ storedVector (answerFor points triangles marks x)) → left 0 areas' vectors' ≡ outcome points triangles marks areas vectors
-    unfolding outcome granted
+        → ((x : ℕ) → x < length marks → vectorAt vectors' (3 * x) ≡ storedVector (answerFor points triangles marks x)) → left 0 areas' vectors' ≡ curved points triangles marks areas vectors
+    unfolding curved granted
     granted-rooms la lv areas' vectors' la' lv' a v =
         rw (pass, eq-eqb _ _ la, eq-eqb _ _ lv)
         (ap₂ (λ xs ys. left 0 xs ys) (rows-of-one (length marks) (λ x. sumsFor points triangles x .area) areas' la' a) (rows-of-three (length marks) (λ x. storedVector (answerFor points triangles marks x)) vectors' lv' v))
@@ -88,6 +88,6 @@ module _ (points triangles marks : List ℕ) (zero-areas zero-vectors areas vect
   unfolding sumAt
   area-is = ap (λ s. s .area) sum-is
 
-  pub vector-is : {v : Vector} → v ≡ storedVector (answer (getD marks x 0) (sumAt areas vectors x)) → v ≡ storedVector (answerFor points triangles marks x)
+  pub vector-is : {v : Vector} → v ≡ storedVector (answerFrom (getD marks x 0) (sumAt areas vectors x)) → v ≡ storedVector (answerFor points triangles marks x)
   unfolding answerFor
   vector-is e = e ∙ rw sum-is

@@ -17,8 +17,8 @@ use Rattle.curvature.specs.declared.answers.Reading.{Reading}
 use Rattle.curvature.specs.declared.answers.Reading.the-variants.{Answered}
 use Rattle.measures.specs.Vectors.{plusZero, vector, numbersOf, vectorAt}
 use Rattle.sums.specs.Sums.{Sum}
-use Rattle.curvature.specs.Answers.{answerOf, answer, storedVector, answerAt}
-use Rattle.curvature.specs.Curved.{Outcome, sumsFor, answerFor, granted, outcome}
+use Rattle.curvature.specs.Answers.{answerOf, answerFrom, storedVector, answerAt}
+use Rattle.curvature.specs.Curved.{Outcome, sumsFor, answerFor, granted, curved}
 use Rattle.curvature.specs.Promise.{Curves, ReadsBack}
 use Rattle.mesh.proofs.Places.{within-any}
 use Rattle.mesh.proofs.Passed.{passed}
@@ -33,8 +33,8 @@ told-again true flat area v = refl
 told-again false true area v = refl
 told-again false false area v = refl
 
-stored-tells : (mark : ℕ) (s : Sum) → answerOf mark (s .area) (storedVector (answer mark s)) ≡ answer mark s
-unfolding answerOf answer
+stored-tells : (mark : ℕ) (s : Sum) → answerOf mark (s .area) (storedVector (answerFrom mark s)) ≡ answerFrom mark s
+unfolding answerOf answerFrom
 stored-tells mark s = told-again (eqb mark 1) (eq (s .area) plusZero) (s .area) _
 
 -- rows of one and of three numbers, read at a point
@@ -88,7 +88,7 @@ left-by false fits number areas vectors g o e z yes-zero no-zero = absurd (no-ze
 
 pub left-granted : (points triangles marks : List ℕ) (areas vectors : List Float) (o : Outcome) → Curves points triangles marks areas vectors o → o .number ≡ 0
     → (meshNumber points triangles marks ≡ 0) × (o ≡ granted points triangles marks)
-unfolding outcome
+unfolding curved
 left-granted points triangles marks areas vectors o e z =
     let number = meshNumber points triangles marks in
     left-by (eqb number 0) (eqb (length areas) (length marks) && eqb (length vectors) (3 * length marks)) number areas vectors (granted points triangles marks) o e z (eqb-true number 0) (eqb-false number 0)

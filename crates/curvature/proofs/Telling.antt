@@ -11,13 +11,13 @@ use borrow.Author.Tests.{ne-eqb}
 use Rattle.measures.specs.declared.vectors.Vector.{Vector}
 use Rattle.curvature.specs.declared.answers.Answer.{Answer}
 use Rattle.curvature.specs.declared.answers.Reading.the-variants.{Answered, Refused}
-use Rattle.curvature.specs.Answers.{kindOf, areaOf, storedVector, valuesOf, readingNumber, holdsOf, readNumber, answerAt}
+use Rattle.curvature.specs.Answers.{kindOf, areaOf, storedVector, valuesOf, readingNumber, holdsOf, readBackNumber, answerAt}
 use Rattle.curvature.specs.Promise.{ReadsBack, Tells}
 use Rattle.curvature.proofs.OneCurvature.{one-point-answer}
 
 module _ (marks : List ℕ) (areas vectors : List Float) (point heldKind : ℕ) (held : List Float) where
   abbrev wanted : ℕ
-  wanted = readNumber marks areas vectors point
+  wanted = readBackNumber marks areas vectors point
 
   abbrev here : Answer
   here = answerAt marks areas vectors point

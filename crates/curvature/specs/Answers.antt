@@ -19,8 +19,8 @@ unfoldable pub answerOf : ℕ → Float → Vector → Answer
 answerOf mark area v = cond (eqb mark 1) (Open area) (cond (eq area plusZero) Flat (Bent area v))
 
 -- from a point's sums: the running vector divided by four times the area
-unfoldable pub answer : ℕ → Sum → Answer
-answer mark s = answerOf mark (s .area) (over (s .vector) (mul binary64 (whole (pos 4)) (s .area)))
+unfoldable pub answerFrom : ℕ → Sum → Answer
+answerFrom mark s = answerOf mark (s .area) (over (s .vector) (mul binary64 (whole (pos 4)) (s .area)))
 
 -- the vector that is stored: +0.0 for open and flat points
 unfoldable pub storedVector : Answer → Vector
@@ -57,8 +57,8 @@ holdsOf (Refused n) = []
 
 module _ (marks : List ℕ) (areas vectors : List Float) (point : ℕ) where
   -- 6 unless there are V areas and 3V numbers; 14 unless the point is below V; 9 for that point's mark; else 0
-  unfoldable pub readNumber : ℕ
-  readNumber =
+  unfoldable pub readBackNumber : ℕ
+  readBackNumber =
       cond (not (eqb (length areas) (length marks) && eqb (length vectors) (3 * length marks))) 6
       (cond (leb (length marks) point) 14 (cond (ltb 1 (getD marks point 0)) 9 0))
 

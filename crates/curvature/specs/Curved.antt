@@ -11,7 +11,7 @@ use Rattle.mesh.specs.Check.{meshNumber}
 use Rattle.curvature.specs.declared.answers.Answer.{Answer}
 use Rattle.measures.specs.Vectors.{numbersOf}
 use Rattle.sums.specs.Sums.{Sum, start, sumAfter}
-use Rattle.curvature.specs.Answers.{answer, storedVector}
+use Rattle.curvature.specs.Answers.{answerFrom, storedVector}
 
 pub record Outcome : Type 0 where
   pub number : ℕ
@@ -25,7 +25,7 @@ sumsFor points triangles point = sumAfter points triangles point (triangleCount 
 module _ (points triangles marks : List ℕ) where
   -- a point's answer
   unfoldable pub answerFor : ℕ → Answer
-  answerFor point = answer (getD marks point 0) (sumsFor points triangles point)
+  answerFor point = answerFrom (getD marks point 0) (sumsFor points triangles point)
 
   -- V areas and 3V vector numbers
   unfoldable pub granted : Outcome
@@ -37,8 +37,8 @@ module _ (points triangles marks : List ℕ) where
       }
 
   -- 6, 7, 8, 9, then 3; a refusal leaves both rooms as they were
-  unfoldable pub outcome : List Float → List Float → Outcome
-  outcome areas vectors =
+  unfoldable pub curved : List Float → List Float → Outcome
+  curved areas vectors =
       let number = meshNumber points triangles marks in
       cond (not (eqb number 0)) (record { number = number; areas = areas; vectors = vectors })
       (cond (not (eqb (length areas) (length marks) && eqb (length vectors) (3 * length marks))) (record { number = 3; areas = areas; vectors = vectors }) granted)

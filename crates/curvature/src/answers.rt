@@ -5,7 +5,7 @@ ghost use lib.ListN.{length, getD};
 ghost use Rattle.measures.specs.Vectors.{vectorAt, putVector};
 ghost use Rattle.sums.specs.Sums.{sums};
 ghost use Rattle.sums.specs.Rooms.{sumAt};
-ghost use Rattle.curvature.specs.Answers.{answerOf, answer as answerFrom, kindOf, areaOf, storedVector};
+ghost use Rattle.curvature.specs.Answers.{answerOf, answerFrom, kindOf, areaOf, storedVector};
 use measures::vectors;
 use measures::vectors::Vector;
 

@@ -15,7 +15,7 @@ use Rattle.laws.specs.Mesh.{sides, sameArrow, flat}
 use Rattle.cube.specs.Cube.{caseOf, isAbove}
 use Rattle.cube.specs.Face.{cuts, wayRound, faceSegments, segmentsOf}
 use Rattle.cube.specs.Loop.{loops, fan}
-use Rattle.cube.specs.Answer.{segments, triangles as caseTriangles}
+use Rattle.cube.specs.Answer.{segments, centreTriangles as caseTriangles}
 use Rattle.grid.specs.Grid.{site, coordinate, side, isAboveGrey, otherEnd, fitsAlong, isThere, isOutermost, someFace, crossedFrom, crossed, onFaceFrom, onFace, mark}
 use Rattle.grid.specs.Point.{pointEdges, number, offset, placeFrom, place}
 use Rattle.grid.specs.Mesh.{cornerSite, gridEdge, caseAt, cubeTriangles, edgeMesh, mesh}
@@ -27,37 +27,37 @@ use Rattle.shellnumbers.proofs.OneShell.{one-shell}
 use lib.Ieee.{eq}
 use Rattle.measures.specs.Sides.{between, cross, squared, crossAt}
 use Rattle.sums.specs.Sums.{addTriangle, sumAfter}
-use Rattle.curvature.specs.Answers.{answerOf, answer}
+use Rattle.curvature.specs.Answers.{answerOf, answerFrom}
 use Rattle.curvature.specs.Curved.{sumsFor as sumAt, answerFor}
-use Rattle.figures.specs.Centre.{edges, points, marks, triangles, smoothed, CentreFigure}
+use Rattle.figures.specs.Centre.{centreEdges, centrePoints, centreMarks, centreTriangles, centreSmoothed, CentreFigure}
 
 -- the mesh: an octahedron round the centre
-edges-are : edges ≡ 14 ∷ 31 ∷ 36 ∷ 39 ∷ 40 ∷ 41 ∷ []
-unfolding edges pointEdges keepTo joinTo crossed crossedFrom isThere fitsAlong coordinate side otherEnd site isAboveGrey xor
+edges-are : centreEdges ≡ 14 ∷ 31 ∷ 36 ∷ 39 ∷ 40 ∷ 41 ∷ []
+unfolding centreEdges pointEdges keepTo joinTo crossed crossedFrom isThere fitsAlong coordinate side otherEnd site isAboveGrey xor
 edges-are = refl
 
 abbrev octahedronPoints : List ℕ
 octahedronPoints =
     256 ∷ 256 ∷ 128 ∷ 256 ∷ 128 ∷ 256 ∷ 128 ∷ 256 ∷ 256 ∷ 384 ∷ 256 ∷ 256 ∷ 256 ∷ 384 ∷ 256 ∷ 256 ∷ 256 ∷ 384 ∷ []
 
-points-are : points ≡ octahedronPoints
-unfolding points flatMap place placeFrom offset nearest coordinate otherEnd site
+points-are : centrePoints ≡ octahedronPoints
+unfolding centrePoints flatMap place placeFrom offset nearest coordinate otherEnd site
 points-are = rw edges-are
 
-marks-are : marks ≡ replicate 6 0
-unfolding marks mark someFace onFace onFaceFrom isOutermost coordinate side
+marks-are : centreMarks ≡ replicate 6 0
+unfolding centreMarks mark someFace onFace onFaceFrom isOutermost coordinate side
 marks-are = rw edges-are
 
 abbrev octahedron : List ℕ
 octahedron =
     2 ∷ 0 ∷ 1 ∷ 3 ∷ 1 ∷ 0 ∷ 2 ∷ 4 ∷ 0 ∷ 3 ∷ 0 ∷ 4 ∷ 2 ∷ 1 ∷ 5 ∷ 3 ∷ 5 ∷ 1 ∷ 2 ∷ 5 ∷ 4 ∷ 3 ∷ 4 ∷ 5 ∷ []
 
-triangles-are : triangles ≡ octahedron
-unfolding triangles flat flatMap mesh edgeMesh joinBox joinTo cubeTriangles caseAt caseOf bits cornerSite site isAboveGrey caseTriangles fan loops segments segmentsOf faceSegments cuts wayRound isAbove bit gridEdge number countTo sumTo crossed crossedFrom isThere fitsAlong coordinate side otherEnd xor
+triangles-are : centreTriangles ≡ octahedron
+unfolding centreTriangles flat flatMap mesh edgeMesh joinBox joinTo cubeTriangles caseAt caseOf bits cornerSite site isAboveGrey caseTriangles fan loops segments segmentsOf faceSegments cuts wayRound isAbove bit gridEdge number countTo sumTo crossed crossedFrom isThere fitsAlong coordinate side otherEnd xor
 triangles-are = refl
 
-smoothed-are : smoothed ≡ replicate 18 256
-unfolding smoothed trianglesOf joinTo rounds round movedIf moved nearest sumOf neighbours keepTo shareSide sides isIn sameArrow
+smoothed-are : centreSmoothed ≡ replicate 18 256
+unfolding centreSmoothed trianglesOf joinTo rounds round movedIf moved nearest sumOf neighbours keepTo shareSide sides isIn sameArrow
 smoothed-are = rw (triangles-are, marks-are, points-are)
 
 -- every point but the first shares a side with a lower one
@@ -66,7 +66,7 @@ unfolding allTo someTo trianglesOf joinTo shareSide sides isIn sameArrow
 all-lower = refl
 
 pub centre : CentreFigure
-unfolding recordFrom pointsUnder trianglesUnder namesUnder keepTo joinTo anyOf sumOfℤ sixfold determinant diagonals listTo answerFor sumAt sumAfter addTriangle crossAt cross squared between answer answerOf eq
+unfolding recordFrom pointsUnder trianglesUnder namesUnder keepTo joinTo anyOf sumOfℤ sixfold determinant diagonals listTo answerFor sumAt sumAfter addTriangle crossAt cross squared between answerFrom answerOf eq
 centre =
     record {
       grid-edges = edges-are;

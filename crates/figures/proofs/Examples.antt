@@ -17,7 +17,7 @@ use Rattle.lines.specs.Line.{endOf, line, fields, lettered}
 use Rattle.writing.specs.Writing.{refusalText}
 use Rattle.meshtext.specs.MeshText.{pointsText, trianglesText, shellText, shellsText, linesOf, meshText}
 use Rattle.gridtext.specs.Grid.{headOf, readHead, smoothingFits, headNumber, refused, granted, withRows, withHead, readGrid}
-use Rattle.gridtext.specs.GridText.{row, rowsText, headText, gridText}
+use Rattle.gridtext.specs.GridText.{sampleRow, rowsText, headText, gridText}
 use Rattle.gridtext.specs.declared.Head.{Head}
 use Rattle.lines.proofs.Quoted.{bytes}
 
@@ -37,7 +37,7 @@ unfolding bytes exampleInput exampleNumbers exampleSamples isDigit after digitsO
 example-read = refl
 
 pub example-text : gridText exampleNumbers exampleSamples ≡ exampleInput
-unfolding bytes exampleInput exampleNumbers exampleSamples decimalTo decimal endOf line joinTo site row rowsText headText gridText
+unfolding bytes exampleInput exampleNumbers exampleSamples decimalTo decimal endOf line joinTo site sampleRow rowsText headText gridText
 example-text = refl
 
 -- the output of the example, whole, and a shell of negative volume

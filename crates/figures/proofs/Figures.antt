@@ -16,8 +16,8 @@ use Rattle.root.specs.Root.{scaleOf, firstScale, rootOf, rootBelow, nextRoot}
 use Rattle.laws.specs.Signed.{negative}
 use Rattle.measures.specs.Sides.{between, dot, cross, squared, dotAt, oppositeAt, crossAt}
 use Rattle.measures.specs.Corners.{dotsOf, squaresOf, doubleArea, cotangents, acuteShare, acuteShares, shares}
-use Rattle.figures.specs.Figure.{Holds, figures}
+use Rattle.figures.specs.Figure.{FigureHolds, figures}
 
-pub figures-hold : All Holds figures
+pub figures-hold : All FigureHolds figures
 unfolding triangles flatMap fan loops segments segmentsOf faceSegments cuts wayRound isAbove bit offset nearest moved sumOf scaleOf firstScale rootOf rootBelow nextRoot between dot cross squared dotAt oppositeAt crossAt negative dotsOf squaresOf doubleArea cotangents acuteShare acuteShares shares ofInt div add mul sum rounded units odd size span climb trailingZeros
 figures-hold = (refl, (refl, (refl, (refl, (refl, (refl, (refl, (refl, (refl, (refl, (refl, (refl, (refl, (refl, tt))))))))))))))

@@ -16,43 +16,43 @@ use Rattle.records.specs.Record.{recordOf}
 use Rattle.curvature.specs.declared.answers.Answer.the-variants.{Flat}
 use Rattle.curvature.specs.Curved.{answerFor}
 
-abbrev pub size : Size
-size = record { nx = 3; ny = 3; nz = 3 }
+abbrev pub centreSize : Size
+centreSize = record { nx = 3; ny = 3; nz = 3 }
 
 -- sample (1, 1, 1) stands at 13
-abbrev pub samples : List ℕ
-samples = replicate 13 0 ++ 100 ∷ replicate 13 0
+abbrev pub centreSamples : List ℕ
+centreSamples = replicate 13 0 ++ 100 ∷ replicate 13 0
 
-abbrev pub grey : ℕ
-grey = 50
+abbrev pub centreGrey : ℕ
+centreGrey = 50
 
 -- its mesh, by the definitions: the grid edges of its points, their places and marks, and its triangles
-unfoldable pub edges : List ℕ
-edges = pointEdges axes size (isAboveGrey grey samples)
+unfoldable pub centreEdges : List ℕ
+centreEdges = pointEdges axes centreSize (isAboveGrey centreGrey centreSamples)
 
-unfoldable pub points : List ℕ
-points = flatMap (place axes size grey samples) edges
+unfoldable pub centrePoints : List ℕ
+centrePoints = flatMap (place axes centreSize centreGrey centreSamples) centreEdges
 
-unfoldable pub marks : List ℕ
-marks = map (mark axes size) edges
+unfoldable pub centreMarks : List ℕ
+centreMarks = map (mark axes centreSize) centreEdges
 
-unfoldable pub triangles : List ℕ
-triangles = flat (mesh size (isAboveGrey grey samples))
+unfoldable pub centreTriangles : List ℕ
+centreTriangles = flat (mesh centreSize (isAboveGrey centreGrey centreSamples))
 
 -- the points after one round of weight 256
-unfoldable pub smoothed : List ℕ
-smoothed = rounds (trianglesOf triangles) marks 256 1 points
+unfoldable pub centreSmoothed : List ℕ
+centreSmoothed = rounds (trianglesOf centreTriangles) centreMarks 256 1 centrePoints
 
 -- what document 01 says of it
 pub record CentreFigure : Type 0 where
-  pub grid-edges : edges ≡ 14 ∷ 31 ∷ 36 ∷ 39 ∷ 40 ∷ 41 ∷ []
-  pub places : points ≡ 256 ∷ 256 ∷ 128 ∷ 256 ∷ 128 ∷ 256 ∷ 128 ∷ 256 ∷ 256 ∷ 384 ∷ 256 ∷ 256 ∷ 256 ∷ 384 ∷ 256 ∷ 256 ∷ 256 ∷ 384 ∷ []
-  pub inside : marks ≡ replicate 6 0
-  pub eight : triangleCount triangles ≡ 8
-  pub first : triangleAt triangles 0 ≡ triangle 2 0 1
+  pub grid-edges : centreEdges ≡ 14 ∷ 31 ∷ 36 ∷ 39 ∷ 40 ∷ 41 ∷ []
+  pub places : centrePoints ≡ 256 ∷ 256 ∷ 128 ∷ 256 ∷ 128 ∷ 256 ∷ 128 ∷ 256 ∷ 256 ∷ 384 ∷ 256 ∷ 256 ∷ 256 ∷ 384 ∷ 256 ∷ 256 ∷ 256 ∷ 384 ∷ []
+  pub inside : centreMarks ≡ replicate 6 0
+  pub eight : triangleCount centreTriangles ≡ 8
+  pub first : triangleAt centreTriangles 0 ≡ triangle 2 0 1
   -- every point has shell number 0, and there is one shell; it touches nothing
-  pub one-shell : Numbering (trianglesOf triangles) (length marks) (replicate 6 0) 1
-  pub volume : recordOf points triangles marks (replicate 6 0) 0 ≡ record { low = 0; points = 6; triangles = 8; touches = 0; volume = pos 16777216 }
+  pub one-shell : Numbering (trianglesOf centreTriangles) (length centreMarks) (replicate 6 0) 1
+  pub volume : recordOf centrePoints centreTriangles centreMarks (replicate 6 0) 0 ≡ record { low = 0; points = 6; triangles = 8; touches = 0; volume = pos 16777216 }
   -- one round of weight 256
-  pub one-place : smoothed ≡ replicate 18 256
-  pub all-flat : listTo 6 (answerFor smoothed triangles marks) ≡ replicate 6 Flat
+  pub one-place : centreSmoothed ≡ replicate 18 256
+  pub all-flat : listTo 6 (answerFor centreSmoothed centreTriangles centreMarks) ≡ replicate 6 Flat

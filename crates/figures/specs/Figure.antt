@@ -43,11 +43,11 @@ pub data Figure : Type 0 where
   -- a triangle at these coordinates has this s, this D and these three shares, all whole numbers
   triangleHas : List ℕ → ℕ → ℕ → ℕ → ℕ → ℕ → Figure
 
-abbrev pub Holds : Figure → Type 0
-Holds (caseHas k ts) = triangles k ≡ ts
-Holds (offsetIs v0 v1 grey o) = offset v0 v1 grey ≡ o
-Holds (movesTo p ns w to) = moved w (length ns) p (sumOf (λ n. n) ns) ≡ to
-Holds (triangleHas points s double a b c) =
+abbrev pub FigureHolds : Figure → Type 0
+FigureHolds (caseHas k ts) = triangles k ≡ ts
+FigureHolds (offsetIs v0 v1 grey o) = offset v0 v1 grey ≡ o
+FigureHolds (movesTo p ns w to) = moved w (length ns) p (sumOf (λ n. n) ns) ≡ to
+FigureHolds (triangleHas points s double a b c) =
     partsOf points
     ≡ record { scale = s; double = whole (pos double); share = corners (whole (pos a)) (whole (pos b)) (whole (pos c)) }
 

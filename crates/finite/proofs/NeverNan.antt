@@ -22,7 +22,7 @@ use Rattle.measures.specs.declared.vectors.Vector.{Vector}
 use Rattle.curvature.specs.declared.answers.Answer.the-variants.{Open, Flat, Bent}
 use Rattle.measures.specs.Vectors.{plusZero, noVector, numbersOf, whole, over}
 use Rattle.sums.specs.Sums.{Sum}
-use Rattle.curvature.specs.Answers.{answerOf, answer, storedVector}
+use Rattle.curvature.specs.Answers.{answerOf, answerFrom, storedVector}
 use Rattle.curvature.specs.Curved.{Outcome, sumsFor, answerFor, granted}
 use Rattle.curvature.specs.Promise.{Curves}
 use Rattle.finite.proofs.AtMost.{AtMost, at-most-more, mul-at-most}
@@ -63,8 +63,8 @@ module _ (q : ℕ) (few : q ≤ 2 ^ 22) (s : Sum) (h : SumMost q s) where
       mul-at-least 0 33 1 84 (whole (pos 4)) (s .area) (omega arith) (power-least 2 (omega arith)) a
       (mul-at-most 2 82 (whole (pos 4)) (s .area) (omega arith) (power-most 2 (omega arith)) (at-most-more q 60 1 82 (s .area) (omega arith) (h .area-most)))
 
-  stored-most : (mark : ℕ) → VectorMost q 77 (storedVector (answer mark s))
-  unfolding answer answerOf storedVector
+  stored-most : (mark : ℕ) → VectorMost q 77 (storedVector (answerFrom mark s))
+  unfolding answerFrom answerOf storedVector
   stored-most mark = go (eqb mark 1) (eq (s .area) plusZero) refl
     where
       go : (marked flat : Bool) → eq (s .area) plusZero ≡ flat

@@ -12,10 +12,10 @@ use Rattle.laws.specs.Room.{laid}
 use Rattle.grid.specs.Limits.{mostRounds, mostWeight, mostSmall, mostNumber}
 use Rattle.grid.specs.Sides.{sidesFit}
 use Rattle.grid.proofs.Sides.{sides-within}
-use Rattle.reading.specs.Reading.{Got, bad, got, Rows, malformed, rows, readRows}
+use Rattle.reading.specs.Reading.{Got, bad, got, GotRows, malformed, rows, readRows}
 use Rattle.reading.specs.Answers.{answeredRows}
-use Rattle.gridtext.specs.Grid.{samplesOf, smoothingFits, headNumber, refusal, refused, grant, granted, withRows, withHead}
-use Rattle.gridtext.specs.Promise.{answeredHead, filled, left}
+use Rattle.gridtext.specs.Grid.{samplesOf, smoothingFits, headNumber, refusedAnswer, refused, grant, granted, withRows, withHead}
+use Rattle.gridtext.specs.Promise.{answeredHead, samplesFilled, left}
 use Rattle.gridtext.specs.declared.Head.{Head}
 use Rattle.gridtext.specs.declared.Headed.{Headed}
 
@@ -54,16 +54,16 @@ module _ (h : Head) (rest room : List ℕ) where
     room-holds l = rw (eq-eqb (headNumber h) 0 e, le-ltb (length room) (samplesOf h) l)
 
 -- after the rows
-module _ (h : Head) (read : Rows) (line : ℕ) (ns room exit : List ℕ) (e : read ≡ answeredRows line ns) (x : exit ≡ filled read room) where
-  pub rows-refused : (line ≡ 0 → ⊥) → left (refusal 12 line) exit ≡ withRows h room read
-  unfolding withRows refused answeredRows filled
+module _ (h : Head) (read : GotRows) (line : ℕ) (ns room exit : List ℕ) (e : read ≡ answeredRows line ns) (x : exit ≡ samplesFilled read room) where
+  pub rows-refused : (line ≡ 0 → ⊥) → left (refusedAnswer 12 line) exit ≡ withRows h room read
+  unfolding withRows refused answeredRows samplesFilled
   rows-refused ne =
       let q : read ≡ malformed line = rw (ne-eqb line 0 ne) at e in
       let y : exit ≡ room = x ∙ rw q in
       rw (q, y)
 
   pub rows-granted : line ≡ 0 → left (grant h) exit ≡ withRows h room read
-  unfolding withRows granted answeredRows filled
+  unfolding withRows granted answeredRows samplesFilled
   rows-granted z =
       let q : read ≡ rows ns = rw (eq-eqb line 0 z) at e in
       let y : exit ≡ laid ns room = x ∙ rw q in

@@ -11,7 +11,7 @@ use lib.ListN.{take}
 use lib.Seq.{take-take}
 use Rattle.grid.specs.Limits.{mostSmall, mostNumber}
 use Rattle.lines.specs.Decimal.{isDigit}
-use Rattle.reading.specs.Reading.{Got, bad, got, after, digitsOn, readNumber, endedBy, readField, readRow, Rows, lineThen, readRows}
+use Rattle.reading.specs.Reading.{Got, bad, got, after, digitsOn, readNumber, endedBy, readField, readRow, GotRows, lineThen, readRows}
 use Rattle.lines.specs.Line.{tab, endOf}
 use Rattle.gridtext.specs.Grid.{letterG, headOf, readHead, headNumber, withHead, readGrid, mostRead}
 use Rattle.gridtext.specs.declared.Head.{Head}
@@ -125,7 +125,7 @@ head-enough (suc (suc m)) k l (b ∷ c ∷ bs) = go (eqb b letterG && eqb c tab)
     go false e = rw e
 
 -- a line and those after it
-line-enough : (line m j : ℕ) (read : List ℕ → Got (List ℕ)) (others : List ℕ → Rows) → Enough m j read → ((bs : List ℕ) → others (take j bs) ≡ others bs) → (bs : List ℕ) → lineThen line others (read (take m bs)) ≡ lineThen line others (read bs)
+line-enough : (line m j : ℕ) (read : List ℕ → Got (List ℕ)) (others : List ℕ → GotRows) → Enough m j read → ((bs : List ℕ) → others (take j bs) ≡ others bs) → (bs : List ℕ) → lineThen line others (read (take m bs)) ≡ lineThen line others (read bs)
 unfolding cut lineThen
 line-enough line m j read others first second bs =
     sym (rest-cut (read (take m bs))) ∙ ap (lineThen line others) (first bs) ∙ rest-cut (read bs)

@@ -10,7 +10,7 @@ use lib.Dec.{leb}
 use lib.ListN.{length, replicate, length-replicate}
 use Rattle.grid.specs.Limits.{mostSmall, mostNumber}
 use Rattle.grid.specs.Sides.{sidesFit}
-use Rattle.reading.specs.Reading.{Got, bad, got, readRow, Rows, malformed, ahead, lineThen, readRows}
+use Rattle.reading.specs.Reading.{Got, bad, got, readRow, GotRows, malformed, ahead, lineThen, readRows}
 use Rattle.reading.specs.Reading.{rows as all-rows}
 use Rattle.lines.specs.Line.{line}
 use Rattle.gridtext.specs.Grid.{readHead, samplesOf, smoothingFits, headNumber, refused, granted, withRows, withHead, readGrid}
@@ -69,7 +69,7 @@ first-of-rows width (suc k) first text at e =
         one-more (due l nothing) = due (omega arith) nothing
         one-more (over q some) = over (ap suc q) some
 
-    others : (ns : List ℕ) (read : Rows) → ahead ns read ≡ malformed at → read ≡ malformed at
+    others : (ns : List ℕ) (read : GotRows) → ahead ns read ≡ malformed at → read ≡ malformed at
     others ns (malformed a) e = e
     others ns (all-rows ms) e = never-malformed e
 
@@ -124,7 +124,7 @@ module _ (input room : List ℕ) (holds : mostSmall ≤ length room) where
   unfolding readGrid withHead withRows refused granted
   malformed-first z = line-1 (readHead input) refl z
     where
-      in-rows : (h : Head) (rest : List ℕ) → HeadThen input h rest → headNumber h ≡ 0 → (read : Rows) → readRows mostNumber (h .nx) (h .ny * h .nz) 2 rest ≡ read
+      in-rows : (h : Head) (rest : List ℕ) → HeadThen input h rest → headNumber h ≡ 0 → (read : GotRows) → readRows mostNumber (h .nx) (h .ny * h .nz) 2 rest ≡ read
           → withRows h room read .answer .number ≡ 12 → MalformedAt input (withRows h room read .answer .line)
       in-rows h rest t e (malformed at) q z = rows h rest t e (first-of-rows (h .nx) (h .ny * h .nz) 2 rest at q)
       in-rows h rest t e (all-rows ns) q z = absurd (omega arith)

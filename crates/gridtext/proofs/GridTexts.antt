@@ -15,10 +15,10 @@ use Rattle.laws.proofs.Sums.{all-append}
 use Rattle.laws.proofs.Ranges.{join-cong, join-blocks, all-entries}
 use Rattle.grid.specs.Limits.{mostRounds, mostWeight, mostNumber}
 use Rattle.grid.specs.Grid.{site}
-use Rattle.reading.specs.Reading.{Got, bad, got, after, Rows, malformed, rows, readRows}
+use Rattle.reading.specs.Reading.{Got, bad, got, after, GotRows, malformed, rows, readRows}
 use Rattle.lines.specs.Line.{line}
 use Rattle.gridtext.specs.Grid.{headOf, readHead, samplesOf, headNumber, Outcome, refused, granted, withRows, withHead, readGrid}
-use Rattle.gridtext.specs.GridText.{sizeOf, row, rowsText, headText, gridText, Small}
+use Rattle.gridtext.specs.GridText.{headSize, sampleRow, rowsText, headText, gridText, Small}
 use Rattle.gridtext.specs.declared.Head.{Head}
 use Rattle.grid.proofs.Sides.{sides-within}
 use Rattle.gridtext.proofs.Heads.{read-is-head}
@@ -26,17 +26,17 @@ use Rattle.gridtext.proofs.Checks.{passed, head-refused, room-short, ro
 use Rattle.reading.proofs.Texts.{part, row-written, rows-written, rows-read}
 
 -- the rows of a grid in the order of the file
-row-part : (h : Head) (samples : List ℕ) (y z : ℕ) → row (sizeOf h) samples y z ≡ part (h .nx) samples (h .ny * z + y)
-unfolding row part site
+row-part : (h : Head) (samples : List ℕ) (y z : ℕ) → sampleRow (headSize h) samples y z ≡ part (h .nx) samples (h .ny * z + y)
+unfolding sampleRow part site
 row-part h samples y z =
     join-cong (h .nx) (λ x. getD samples (x + h .nx * (y + h .ny * z)) 0 ∷ []) (λ x. getD samples (h .nx * (h .ny * z + y) + x) 0 ∷ [])
     (λ x l. rw (add-comm y (h .ny * z), add-comm x (h .nx * (h .ny * z + y))))
 
-pub rows-parts : (h : Head) (samples : List ℕ) → rowsText (sizeOf h) samples ≡ joinTo (h .ny * h .nz) (λ r. line (part (h .nx) samples r))
+pub rows-parts : (h : Head) (samples : List ℕ) → rowsText (headSize h) samples ≡ joinTo (h .ny * h .nz) (λ r. line (part (h .nx) samples r))
 unfolding rowsText
 rows-parts h samples =
-    join-cong (h .nz) (λ z. joinTo (h .ny) (λ y. line (row (sizeOf h) samples y z))) (λ z. joinTo (h .ny) (λ y. line (part (h .nx) samples (h .ny * z + y))))
-    (λ z l. join-cong (h .ny) (λ y. line (row (sizeOf h) samples y z)) (λ y. line (part (h .nx) samples (h .ny * z + y))) (λ y m. ap line (row-part h samples y z)))
+    join-cong (h .nz) (λ z. joinTo (h .ny) (λ y. line (sampleRow (headSize h) samples y z))) (λ z. joinTo (h .ny) (λ y. line (part (h .nx) samples (h .ny * z + y))))
+    (λ z l. join-cong (h .ny) (λ y. line (sampleRow (headSize h) samples y z)) (λ y. line (part (h .nx) samples (h .ny * z + y))) (λ y m. ap line (row-part h samples y z)))
     ∙ sym (join-blocks (h .ny) (h .nz) (λ r. line (part (h .nx) samples r)))
 
 -- all samples, row by row
@@ -78,8 +78,8 @@ pub grid-read : (h : Head) (samples room : List ℕ) → Small h samples → sam
 unfolding readGrid gridText withRows
 grid-read h samples room s l =
     rw (
-      head-written h (rowsText (sizeOf h) samples) (s .checked) (s .grey),
-      room-holds h (rowsText (sizeOf h) samples) room (s .checked) l,
+      head-written h (rowsText (headSize h) samples) (s .checked) (s .grey),
+      room-holds h (rowsText (headSize h) samples) room (s .checked) l,
       rows-parts h samples,
       rows-written mostNumber (h .nx) (h .ny * h .nz) 2 (part (h .nx) samples) (part-fits mostNumber (h .nx) samples (s .within)),
       parts-whole (h .nx) (h .ny * h .nz) samples (s .whole),
@@ -95,7 +95,7 @@ pub record Taken (input room : List ℕ) (outcome : Outcome) : Type 0 where
   pub answer : outcome ≡ granted head samples room
 
 rows-taken : (h : Head) (input rest room : List ℕ) → input ≡ headText h ++ rest → h .grey ≤ mostNumber → headNumber h ≡ 0 → samplesOf h ≤ length room
-    → (read : Rows) → readRows mostNumber (h .nx) (h .ny * h .nz) 2 rest ≡ read → withRows h room read .answer .number ≡ 0 → Taken input room (withRows h room read)
+    → (read : GotRows) → readRows mostNumber (h .nx) (h .ny * h .nz) 2 rest ≡ read → withRows h room read .answer .number ≡ 0 → Taken input room (withRows h room read)
 unfolding withRows refused gridText
 rows-taken h input rest room t g e l (malformed line) r z = absurd (omega arith)
 rows-taken h input rest room t g e l (rows ns) r z =

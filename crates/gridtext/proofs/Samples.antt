@@ -14,9 +14,9 @@ use Rattle.laws.proofs.Rooms.{laid-next}
 use Rattle.grid.specs.Limits.{mostSide, mostNumber}
 use Rattle.grid.specs.Sides.{sidesFit}
 use Rattle.grid.proofs.Sides.{sides-within}
-use Rattle.reading.specs.Reading.{bad, got, after, readRow, Rows, malformed, rows}
+use Rattle.reading.specs.Reading.{bad, got, after, readRow, GotRows, malformed, rows}
 use Rattle.reading.specs.Answers.{answeredRows}
-use Rattle.gridtext.specs.Promise.{filled}
+use Rattle.gridtext.specs.Promise.{samplesFilled}
 use Rattle.gridtext.specs.Grid.{headOf, readHead}
 use Rattle.gridtext.specs.declared.Head.{Head}
 
@@ -79,16 +79,16 @@ module _ (input : List ℕ) (l : 2 ≤ length input) (g : getD input 0 0 ≡ 71)
   head-reads ns rest e = rw (head-row input l g t, e, six ns)
 
 -- the room for samples, by the line that was answered
-module _ (read : Rows) (line n : ℕ) (found entry exit : List ℕ) (e : read ≡ answeredRows line (take n found)) where
-  pub filled-well : line ≡ 0 → n ≤ length found → exit ≡ laid (take n found) entry → (read ≡ answeredRows line (take n exit)) × (exit ≡ filled read entry)
-  unfolding answeredRows filled laid
+module _ (read : GotRows) (line n : ℕ) (found entry exit : List ℕ) (e : read ≡ answeredRows line (take n found)) where
+  pub filled-well : line ≡ 0 → n ≤ length found → exit ≡ laid (take n found) entry → (read ≡ answeredRows line (take n exit)) × (exit ≡ samplesFilled read entry)
+  unfolding answeredRows samplesFilled laid
   filled-well z l x =
       let q : read ≡ rows (take n found) = rw (eq-eqb line 0 z) at e in
       let t : take n exit ≡ take n found = ap (take n) x ∙ take-at (take n found) (drop (length (take n found)) entry) n (length-take-le n found l) in
       (rw (eq-eqb line 0 z, t) q, rw q x)
 
-  pub filled-not : (line ≡ 0 → ⊥) → exit ≡ entry → (read ≡ answeredRows line (take n exit)) × (exit ≡ filled read entry)
-  unfolding answeredRows filled
+  pub filled-not : (line ≡ 0 → ⊥) → exit ≡ entry → (read ≡ answeredRows line (take n exit)) × (exit ≡ samplesFilled read entry)
+  unfolding answeredRows samplesFilled
   filled-not ne x =
       let q : read ≡ malformed line = rw (ne-eqb line 0 ne) at e in
       (rw (ne-eqb line 0 ne) q, rw q x)

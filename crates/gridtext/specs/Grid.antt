@@ -7,7 +7,7 @@ use lib.ListN.{length, getD}
 use Rattle.laws.specs.Room.{laid}
 use Rattle.grid.specs.Sides.{sidesFit}
 use Rattle.grid.specs.Limits.{mostRounds, mostWeight, mostSmall, mostNumber}
-use Rattle.reading.specs.Reading.{Got, bad, got, after, readRow, Rows, malformed, rows, readRows}
+use Rattle.reading.specs.Reading.{Got, bad, got, after, readRow, GotRows, malformed, rows, readRows}
 use Rattle.lines.specs.Line.{tab}
 use Rattle.gridtext.specs.declared.Head.{Head}
 use Rattle.gridtext.specs.declared.Parsed.{Parsed}
@@ -44,11 +44,11 @@ pub record Outcome : Type 0 where
   pub samples : List ℕ
 
 -- a refusal gives the number and the line, and leaves the room
-abbrev pub refusal : ℕ → ℕ → Parsed
-refusal number line = record { number = number; line = line; nx = 0; ny = 0; nz = 0; grey = 0; rounds = 0; weight = 0 }
+abbrev pub refusedAnswer : ℕ → ℕ → Parsed
+refusedAnswer number line = record { number = number; line = line; nx = 0; ny = 0; nz = 0; grey = 0; rounds = 0; weight = 0 }
 
 unfoldable pub refused : ℕ → ℕ → List ℕ → Outcome
-refused number line room = record { answer = refusal number line; samples = room }
+refused number line room = record { answer = refusedAnswer number line; samples = room }
 
 -- a grid gives line 1's numbers, and its samples fill the room from the front
 abbrev pub grant : Head → Parsed
@@ -59,7 +59,7 @@ unfoldable pub granted : Head → List ℕ → List ℕ → Outcome
 granted h ns room = record { answer = grant h; samples = laid ns room }
 
 -- rows: ny·nz lines of nx samples from line 2 to the end
-unfoldable pub withRows : Head → List ℕ → Rows → Outcome
+unfoldable pub withRows : Head → List ℕ → GotRows → Outcome
 withRows h room (malformed line) = refused 12 line room
 withRows h room (rows ns) = granted h ns room
 

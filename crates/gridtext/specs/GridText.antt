@@ -11,22 +11,22 @@ use Rattle.grid.specs.Limits.{mostNumber}
 use Rattle.gridtext.specs.Grid.{letterG, samplesOf, headNumber}
 use Rattle.gridtext.specs.declared.Head.{Head}
 
-abbrev pub sizeOf : Head → Size
-sizeOf h = record { nx = h .nx; ny = h .ny; nz = h .nz }
+abbrev pub headSize : Head → Size
+headSize h = record { nx = h .nx; ny = h .ny; nz = h .nz }
 
 -- a row of nx samples
-unfoldable pub row : Size → List ℕ → ℕ → ℕ → List ℕ
-row n samples y z = joinTo (n .nx) (λ x. getD samples (site n x y z) 0 ∷ [])
+unfoldable pub sampleRow : Size → List ℕ → ℕ → ℕ → List ℕ
+sampleRow n samples y z = joinTo (n .nx) (λ x. getD samples (site n x y z) 0 ∷ [])
 
 -- ny·nz rows, y fastest, then z
 unfoldable pub rowsText : Size → List ℕ → List ℕ
-rowsText n samples = joinTo (n .nz) (λ z. joinTo (n .ny) (λ y. line (row n samples y z)))
+rowsText n samples = joinTo (n .nz) (λ z. joinTo (n .ny) (λ y. line (sampleRow n samples y z)))
 
 unfoldable pub headText : Head → List ℕ
 headText h = letterG ∷ tab ∷ line (h .nx ∷ h .ny ∷ h .nz ∷ h .grey ∷ h .rounds ∷ h .weight ∷ [])
 
 unfoldable pub gridText : Head → List ℕ → List ℕ
-gridText h samples = headText h ++ rowsText (sizeOf h) samples
+gridText h samples = headText h ++ rowsText (headSize h) samples
 
 -- a grid that the program takes
 pub record Small (h : Head) (samples : List ℕ) : Type 0 where

@@ -5,7 +5,7 @@ use mathlib.Core.Bool.{cond}
 use Prim.Native.Nat.{ℕ}
 use lib.ListN.{drop}
 use Rattle.laws.specs.Room.{laid}
-use Rattle.reading.specs.Reading.{Got, bad, got, Rows, malformed, rows}
+use Rattle.reading.specs.Reading.{Got, bad, got, GotRows, malformed, rows}
 use Rattle.gridtext.specs.Grid.{Outcome, readGrid}
 use Rattle.gridtext.specs.declared.Head.{Head}
 use Rattle.gridtext.specs.declared.Headed.{Headed}
@@ -16,9 +16,9 @@ unfoldable pub answeredHead : List ℕ → Headed → Got Head
 answeredHead input r = cond (r .ok) (got (r .head) (drop (r .next) input)) bad
 
 -- the room for samples after the rows were read: a malformed line leaves it
-unfoldable pub filled : Rows → List ℕ → List ℕ
-filled (malformed line) room = room
-filled (rows ns) room = laid ns room
+unfoldable pub samplesFilled : GotRows → List ℕ → List ℕ
+samplesFilled (malformed line) room = room
+samplesFilled (rows ns) room = laid ns room
 
 abbrev pub left : Parsed → List ℕ → Outcome
 left r samples = record { answer = r; samples = samples }

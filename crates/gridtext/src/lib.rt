@@ -7,8 +7,8 @@ ghost use Rattle.laws.specs.Room.{laid};
 ghost use Rattle.grid.specs.Limits.{mostSmall, mostNumber};
 ghost use Rattle.reading.specs.Reading.{got, readRows};
 ghost use Rattle.reading.specs.Answers.{answeredRows};
-ghost use Rattle.gridtext.specs.Grid.{headOf, readHead, headNumber, refusal, withHead};
-ghost use Rattle.gridtext.specs.Promise.{answeredHead, filled, left, ReadsGrid};
+ghost use Rattle.gridtext.specs.Grid.{headOf, readHead, headNumber, refusedAnswer, withHead};
+ghost use Rattle.gridtext.specs.Promise.{answeredHead, samplesFilled, left, ReadsGrid};
 use grid::limits::MOST_ROUNDS;
 use grid::limits::MOST_SMALL;
 use grid::limits::MOST_WEIGHT;
@@ -136,7 +136,7 @@ fn copy(count: usize, read: &[u16], written: &mut [u16])
 fn fill(input: &[u8], from: usize, width: usize, count: u32, samples: &mut [u16]) -> u32
     requires { ⌜ (width * count ≤ mostSmall) × (width * count ≤ length (now samples)) × (count ≤ mostSmall) ⌝ }
     ensures line { λ r. ⌜ readRows mostNumber width count 2 (drop from (now (input .entry))) ≡ answeredRows r (take (width * count) (now (samples .exit))) ⌝ }
-    ensures room { λ _. ⌜ now (samples .exit) ≡ filled (readRows mostNumber width count 2 (drop from (now (input .entry)))) (now (samples .entry)) ⌝ }
+    ensures room { λ _. ⌜ now (samples .exit) ≡ samplesFilled (readRows mostNumber width count 2 (drop from (now (input .entry)))) (now (samples .entry)) ⌝ }
 {
     let mut read = [0u16; MOST_SMALL as usize];
     let line = read_rows(input, from, width, count, &mut read);
@@ -147,7 +147,7 @@ fn fill(input: &[u8], from: usize, width: usize, count: u32, samples: &mut [u16]
 }
 
 fn refused(number: u32, line: u32) -> Parsed
-    ensures { λ r. ⌜ r ≡ refusal number line ⌝ }
+    ensures { λ r. ⌜ r ≡ refusedAnswer number line ⌝ }
 {
     Parsed {
         number,

@@ -11,7 +11,7 @@ use Rattle.laws.proofs.Ranges.{join-next, length-join, sum-rises, sum-cong, cou
 use Rattle.laws.proofs.Rooms.{zeros-at}
 use Rattle.grid.specs.Limits.{mostTriangles}
 use Rattle.mesh.specs.Mesh.{triangleCount, triangleAt}
-use Rattle.neighbours.specs.Lists.{twoIf, others, bucketTo, bucket, Lists}
+use Rattle.neighbours.specs.Lists.{twoIf, others, bucketTo, bucket, ListsFit}
 use Rattle.neighbours.specs.Steps.{AllBelow, From, HoldsTo, StampsBelow, sizeTo, beginOf, Filled, putTwo}
 use Rattle.neighbours.proofs.Sized.{bucket-size, entries-taken}
 use Rattle.neighbours.proofs.Filled.{place-free, put-filled, put-stamps, length-put}
@@ -42,7 +42,7 @@ afterOne ts i k = with-two (bucketTo ts i) (getD ts k 0) (getD ts (k + 1) 0) (ge
 abbrev pub afterTwo : List ℕ → ℕ → ℕ → ℕ → List ℕ
 afterTwo ts i k = with-two (afterOne ts i k) (getD ts (k + 1) 0) (getD ts (k + 2) 0) (getD ts k 0)
 
-module _ (ts : List ℕ) (v at size : ℕ) (ok : Lists ts v at size) where
+module _ (ts : List ℕ) (v at size : ℕ) (ok : ListsFit ts v at size) where
   abbrev Fits : (ℕ → List ℕ) → Type 0
   Fits entries = (k : ℕ) → length (entries k) ≤ length (bucket ts k)
 

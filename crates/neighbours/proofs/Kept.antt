@@ -13,7 +13,7 @@ use borrow.Author.Tests.{eqb-true, eqb-false}
 use Rattle.laws.specs.Range.{joinTo, someTo}
 use Rattle.laws.proofs.Ranges.{join-next}
 use Rattle.neighbours.specs.Lists.{metTo, differentTo}
-use Rattle.neighbours.specs.Steps.{AllBelow, Same, Written, StampsBelow}
+use Rattle.neighbours.specs.Steps.{AllBelow, Same, WrittenFrom, StampsBelow}
 
 module _ (f : ℕ → ℕ) where
   pub met-next : (n q : ℕ) → metTo f (n + 1) q ≡ (eqb (f n) q || metTo f n q)
@@ -56,7 +56,7 @@ module _ (from end to stamps stamp : ℕ) (work₀ : List ℕ) where
     pub same : length work ≡ length work₀
     pub within : from + n ≤ end
     pub counted : kept ≡ to + length (differentTo entry n)
-    pub written : Written to (differentTo entry n) work
+    pub written : WrittenFrom to (differentTo entry n) work
     pub below : Same 0 to work₀ work
     pub ahead : Same (from + n) stamps work₀ work
     pub stamped : (q : ℕ) → metTo entry n q ≡ true → getD work (stamps + q) 0 ≡ stamp

@@ -15,8 +15,8 @@ use Rattle.laws.proofs.Lists.{all-get}
 use Rattle.laws.proofs.Ranges.{sum-next, sum-rises, join-cong, of-join, some-cong}
 use Rattle.laws.specs.Mesh.{Triangle}
 use Rattle.mesh.specs.Mesh.{triangleCount, triangleAt}
-use Rattle.neighbours.specs.Lists.{twoIf, others, bucketTo, bucket, metTo, differentTo, listOf, startOf, Listed, Lists}
-use Rattle.neighbours.specs.Steps.{AllBelow, Same, Written, StampsBelow, beginOf, BucketsFrom, ListsTo, Filled}
+use Rattle.neighbours.specs.Lists.{twoIf, others, bucketTo, bucket, metTo, differentTo, listOf, startOf, Listed, ListsFit}
+use Rattle.neighbours.specs.Steps.{AllBelow, Same, WrittenFrom, StampsBelow, beginOf, BucketsFrom, ListsTo, Filled}
 use Rattle.neighbours.proofs.Sized.{begin-next, begins-rise, entries-taken}
 use Rattle.neighbours.proofs.Kept.{different-le}
 
@@ -49,7 +49,7 @@ pub record ListedTo (ts : List ℕ) (v at size p from to : ℕ) (work : List ℕ
   pub buckets : BucketsFrom ts p v work
   pub stamped : StampsBelow (at + v + 1) (p + 1) work
 
-module _ (ts : List ℕ) (v at size : ℕ) (ok : Lists ts v at size) where
+module _ (ts : List ℕ) (v at size : ℕ) (ok : ListsFit ts v at size) where
   all-below : (p : ℕ) → Below v (bucket ts p)
   unfolding bucketTo others
   all-below p =
@@ -161,7 +161,7 @@ module _ (ts : List ℕ) (v at size : ℕ) (ok : Lists ts v at size) where
 
     pub listed-next : (kept : ℕ) (after : List ℕ) → length after ≡ length stored
         → kept ≡ to + length (differentTo (λ k. getD stored (from + k) 0) (end - from))
-        → Written to (differentTo (λ k. getD stored (from + k) 0) (end - from)) after
+        → WrittenFrom to (differentTo (λ k. getD stored (from + k) 0) (end - from)) after
         → Same 0 to stored after → Same end stamps stored after → StampsBelow stamps (p + 1 + 1) after
         → To (p + 1) end kept after
     listed-next kept after long counted written below behind clean =
@@ -190,7 +190,7 @@ module _ (ts : List ℕ) (v at size : ℕ) (ok : Lists ts v at size) where
             let is : q ≡ p = omega arith in
             rw is (behind (at + p) (omega (arith, places)) (omega arith) ∙ getD-set-same work (at + p) to 0 (omega (arith, ok .room, h .same)) ∙ h .to-is)
 
-        list-of : (q : ℕ) → q < p + 1 → Dec (q < p) → Written (startOf ts q) (listOf ts q) after
+        list-of : (q : ℕ) → q < p + 1 → Dec (q < p) → WrittenFrom (startOf ts q) (listOf ts q) after
         list-of q m (yes b) j n =
             let low : startOf ts q + j < to = omega (arith, starts-rise q p b, h .to-is) in
             below (startOf ts q + j) (omega arith) low

@@ -12,7 +12,7 @@ use Rattle.laws.specs.Mesh.{Triangle}
 use Rattle.laws.proofs.Ranges.{sum-next, sum-cong, sum-blocks, sum-rises, length-join}
 use Rattle.laws.proofs.Parted.{parted}
 use Rattle.mesh.specs.Mesh.{triangleCount, triangleAt}
-use Rattle.neighbours.specs.Lists.{twoIf, others, bucketTo, bucket, Lists}
+use Rattle.neighbours.specs.Lists.{twoIf, others, bucketTo, bucket, ListsFit}
 use Rattle.neighbours.specs.Steps.{sizeTo, beginOf}
 
 length-two : (b : Bool) (q r : ℕ) → length (twoIf b q r) ≡ 2 * one-if b
@@ -44,7 +44,7 @@ sized-threes ts n p =
         ≡ 2 * sumTo 3 (λ j. one-if (eqb (getD ts (3 * i + j) 0) p))
     three i = rw (add-zero (3 * i)) (omega arith)
 
-module _ (ts : List ℕ) (v at room : ℕ) (ok : Lists ts v at room) where
+module _ (ts : List ℕ) (v at room : ℕ) (ok : ListsFit ts v at room) where
   pub bucket-size : (p : ℕ) → sizeTo ts (length ts) p ≡ length (bucket ts p)
   bucket-size p = ap (λ n. sizeTo ts n p) (ok .threes) ∙ sized-threes ts (triangleCount ts) p
 

@@ -19,7 +19,7 @@ use Rattle.laws.proofs.Some.{some-or, some-in, in-append, in-join, sum-keep}
 use Rattle.laws.proofs.Sides.{sides-join}
 use Rattle.mesh.specs.Mesh.{triangleCount, triangleAt, trianglesOf}
 use Rattle.mesh.specs.Neighbours.{shareSide, neighbours}
-use Rattle.neighbours.specs.Lists.{twoIf, others, bucketTo, bucket, metTo, differentTo, listOf, Lists}
+use Rattle.neighbours.specs.Lists.{twoIf, others, bucketTo, bucket, metTo, differentTo, listOf, ListsFit}
 use Rattle.neighbours.proofs.Listing.{bucket-below}
 
 -- what the different ones of n numbers below v are worth: each that was met, once
@@ -135,7 +135,7 @@ module _ (p q : ℕ) where
       ∙ sym (ap₂ _||_ (among ts p q) (among ts q p))
 
 -- whatever points are worth, a point's list and its neighbours are worth the same
-pub list-sum : (ts : List ℕ) (v at size : ℕ) → Lists ts v at size → (g : ℕ → ℕ) (p : ℕ) → sumOf g (listOf ts p) ≡ sumOf g (neighbours v (trianglesOf ts) p)
+pub list-sum : (ts : List ℕ) (v at size : ℕ) → ListsFit ts v at size → (g : ℕ → ℕ) (p : ℕ) → sumOf g (listOf ts p) ≡ sumOf g (neighbours v (trianglesOf ts) p)
 unfolding listOf neighbours
 list-sum ts v at size ok g p =
     different-sum g (λ k. getD (bucket ts p) k 0) v (length (bucket ts p)) (bucket-below ts v at size ok p)
@@ -144,6 +144,6 @@ list-sum ts v at size ok g p =
     ∙ sym (sum-keep g v (shareSide (trianglesOf ts) p))
 
 -- and so they are of one length
-pub list-length : (ts : List ℕ) (v at size : ℕ) → Lists ts v at size → (p : ℕ) → length (listOf ts p) ≡ length (neighbours v (trianglesOf ts) p)
+pub list-length : (ts : List ℕ) (v at size : ℕ) → ListsFit ts v at size → (p : ℕ) → length (listOf ts p) ≡ length (neighbours v (trianglesOf ts) p)
 list-length ts v at size ok p =
     sym (sum-ones (listOf ts p)) ∙ list-sum ts v at size ok (λ q. 1) p ∙ sum-ones (neighbours v (trianglesOf ts) p)

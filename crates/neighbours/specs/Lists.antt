@@ -48,7 +48,7 @@ pub record Listed (ts : List ℕ) (v at : ℕ) (work : List ℕ) : Type 0 where
   pub entries : (p j : ℕ) → p < v → j < length (listOf ts p) → getD work (startOf ts p + j) 0 ≡ getD (listOf ts p) j 0
 
 -- what is needed: the triangles name points below v, and the room, of that length, holds all the parts, `at` being the number of entries
-pub record Lists (ts : List ℕ) (v at size : ℕ) : Type 0 where
+pub record ListsFit (ts : List ℕ) (v at size : ℕ) : Type 0 where
   pub threes : length ts ≡ 3 * triangleCount ts
   pub named : (k : ℕ) → k < length ts → getD ts k 0 < v
   pub entered : at ≡ 2 * length ts

@@ -46,13 +46,13 @@ abbrev pub Same : ℕ → ℕ → List ℕ → List ℕ → Type 0
 Same from end work after = (i : ℕ) → from ≤ i → i < end → getD after i 0 ≡ getD work i 0
 
 -- numbers stand in the room from a place on
-abbrev pub Written : ℕ → List ℕ → List ℕ → Type 0
-Written at xs work = (j : ℕ) → j < length xs → getD work (at + j) 0 ≡ getD xs j 0
+abbrev pub WrittenFrom : ℕ → List ℕ → List ℕ → Type 0
+WrittenFrom at xs work = (j : ℕ) → j < length xs → getD work (at + j) 0 ≡ getD xs j 0
 
 -- every point's bucket from p on
 abbrev pub BucketsFrom : List ℕ → ℕ → ℕ → List ℕ → Type 0
-BucketsFrom ts p v work = (q : ℕ) → p ≤ q → q < v → Written (beginOf ts q) (bucket ts q) work
+BucketsFrom ts p v work = (q : ℕ) → p ≤ q → q < v → WrittenFrom (beginOf ts q) (bucket ts q) work
 
 -- every point's list below p
 abbrev pub ListsTo : List ℕ → ℕ → List ℕ → Type 0
-ListsTo ts p work = (q : ℕ) → q < p → Written (startOf ts q) (listOf ts q) work
+ListsTo ts p work = (q : ℕ) → q < p → WrittenFrom (startOf ts q) (listOf ts q) work

@@ -7,8 +7,8 @@ ghost use Prim.Native.Nat.{_+_, _*_, _-_, _<_, _≤_};
 ghost use lib.ListN.{length, getD};
 ghost use Rattle.laws.specs.Range.{sumTo};
 ghost use Rattle.grid.specs.Limits.{mostTriangles};
-ghost use Rattle.neighbours.specs.Lists.{bucket, differentTo, Lists, Listed};
-ghost use Rattle.neighbours.specs.Steps.{AllBelow, HoldsTo, From, Same, Written, StampsBelow, sizeTo, putTwo, Filled};
+ghost use Rattle.neighbours.specs.Lists.{bucket, differentTo, ListsFit, Listed};
+ghost use Rattle.neighbours.specs.Steps.{AllBelow, HoldsTo, From, Same, WrittenFrom, StampsBelow, sizeTo, putTwo, Filled};
 
 // How long each bucket will be: two entries for each corner.
 fn count(triangles: &[u32], at: usize, work: &mut [u32])
@@ -60,7 +60,7 @@ fn put_two(p: u32, q: u32, r: u32, at: usize, work: &mut [u32])
 
 // Each corner of each triangle puts the other two into its bucket.
 fn fill(triangles: &[u32], v: usize, at: usize, work: &mut [u32])
-    requires { ⌜ Lists (now triangles) v at (length (now work)) ⌝ }
+    requires { ⌜ ListsFit (now triangles) v at (length (now work)) ⌝ }
     ensures filled { λ _. ⌜ Filled (now (triangles .entry)) v at (bucket (now (triangles .entry))) (now (work .exit)) ⌝ }
     ensures stamps { λ _. ⌜ StampsBelow (at + v + 1) 1 (now (work .exit)) ⌝ }
 {
@@ -95,7 +95,7 @@ fn keep_different(
     requires { ⌜ AllBelow (end - from) (λ k. stamps + getD (now work) (from + k) 0) (length (now work)) ⌝ }
     requires { ⌜ StampsBelow stamps stamp (now work) ⌝ }
     ensures kept { λ r. ⌜ r ≡ to + length (differentTo (λ k. getD (now (work .entry)) (from + k) 0) (end - from)) ⌝ }
-    ensures written { λ r. ⌜ Written to (differentTo (λ k. getD (now (work .entry)) (from + k) 0) (end - from)) (now (work .exit)) ⌝ }
+    ensures written { λ r. ⌜ WrittenFrom to (differentTo (λ k. getD (now (work .entry)) (from + k) 0) (end - from)) (now (work .exit)) ⌝ }
     ensures below { λ r. ⌜ Same 0 to (now (work .entry)) (now (work .exit)) ⌝ }
     ensures behind { λ r. ⌜ Same end stamps (now (work .entry)) (now (work .exit)) ⌝ }
     ensures stamps { λ r. ⌜ StampsBelow stamps (stamp + 1) (now (work .exit)) ⌝ }
@@ -117,7 +117,7 @@ fn keep_different(
 
 // Lists the different neighbours of every point, whose number and one is its stamp. A bucket's end is read before its list's start is stored there.
 pub fn list(triangles: &[u32], v: usize, at: usize, work: &mut [u32])
-    requires { ⌜ Lists (now triangles) v at (length (now work)) ⌝ }
+    requires { ⌜ ListsFit (now triangles) v at (length (now work)) ⌝ }
     ensures { λ _. ⌜ Listed (now (triangles .entry)) v at (now (work .exit)) ⌝ }
 {
     fill(triangles, v, at, work);

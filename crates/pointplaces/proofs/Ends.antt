@@ -18,7 +18,7 @@ use Rattle.masks.specs.Masks.{maskAbove}
 use Rattle.rows.specs.declared.Sides.{Sides}
 use Rattle.rows.specs.declared.Cuts.{Cuts}
 use Rattle.rows.specs.Rows.{sizeOf, nextNumber}
-use Rattle.pointplaces.specs.Places.{Rooms, RoomsFor, stepOf, Placeable, SamplePlaceable, Given, countBelow, countAll}
+use Rattle.pointplaces.specs.Places.{PointRooms, RoomsFor, stepOf, Placeable, SamplePlaceable, Given, countBelow, countAll}
 use Rattle.rows.proofs.Bounds.{sample-small}
 use Rattle.rows.proofs.Cut.{Tested, same-ends}
 use Rattle.pointplaces.proofs.Placing.{count-next-edge}
@@ -39,7 +39,7 @@ module _ (sides : Sides) (grey : ℕ) (samples masks : List ℕ) (given : Given 
       false≢true (sym (same-ends (above t)) ∙ ap (xor (above t)) alike ∙ apart)
 
   -- there is room for the point of a crossed edge
-  room : (e n : ℕ) (r : Rooms) → e < edgeCount axes (sizeOf sides) → cut e ≡ true → n ≡ countBelow sides masks e
+  room : (e n : ℕ) (r : PointRooms) → e < edgeCount axes (sizeOf sides) → cut e ≡ true → n ≡ countBelow sides masks e
       → RoomsFor (countAll sides masks) r → RoomsFor (n + 1) r
   unfolding number
   room e n r l h counted fits =
@@ -47,7 +47,7 @@ module _ (sides : Sides) (grey : ℕ) (samples masks : List ℕ) (given : Given 
       record { points = omega (arith, fits .points); edges = omega (arith, fits .edges); marks = omega (arith, fits .marks) }
 
   -- the point of a crossed edge e, which leaves sample s along an axis, can be placed
-  placeable : (s axis step e n : ℕ) (there : Bool) (r : Rooms) → s < sampleCount (sizeOf sides) → stepOf (sizeOf sides) axis ≡ step
+  placeable : (s axis step e n : ℕ) (there : Bool) (r : PointRooms) → s < sampleCount (sizeOf sides) → stepOf (sizeOf sides) axis ≡ step
       → (there ≡ true → s + step < sampleCount (sizeOf sides)) → cut e ≡ (there && xor (above s) (above (s + step)))
       → e < edgeCount axes (sizeOf sides) → n ≡ countBelow sides masks e → RoomsFor (countAll sides masks) r → cut e ≡ true
       → Placeable (sizeOf sides) samples s axis n r
@@ -81,7 +81,7 @@ module _ (sides : Sides) (grey : ℕ) (samples masks : List ℕ) (given : Given 
         let q : y + sides .ny * (z + 1) ≡ y + sides .ny * z + sides .ny = omega (arith, mul-add (sides .ny) z 1, mul-one (sides .ny)) in
         omega (arith, rw q at (sample-small sides y (z + 1) hy (ltb-true _ _ h) x hx), mul-add (sides .nx) (y + sides .ny * z) (sides .ny))
 
-    at-sample : (n : ℕ) (cuts : Cuts) (r : Rooms) → n ≡ countBelow sides masks (3 * s) → Tested sides masks (3 * s) cuts → RoomsFor (countAll sides masks) r
+    at-sample : (n : ℕ) (cuts : Cuts) (r : PointRooms) → n ≡ countBelow sides masks (3 * s) → Tested sides masks (3 * s) cuts → RoomsFor (countAll sides masks) r
         → SamplePlaceable sides samples s n cuts r
     unfolding site
     at-sample n cuts r counted by fits =
@@ -111,7 +111,7 @@ module _ (sides : Sides) (grey : ℕ) (samples masks : List ℕ) (given : Given 
               (by .along-z ∙ h);
         }
 
-    pub sample-placeable : (at e n : ℕ) (cuts : Cuts) (r : Rooms) → at ≡ s → e ≡ 3 * s → n ≡ countBelow sides masks e → Tested sides masks e cuts
+    pub sample-placeable : (at e n : ℕ) (cuts : Cuts) (r : PointRooms) → at ≡ s → e ≡ 3 * s → n ≡ countBelow sides masks e → Tested sides masks e cuts
         → RoomsFor (countAll sides masks) r → SamplePlaceable sides samples at n cuts r
     sample-placeable at e n cuts r is edge counted by fits =
         rw is (at-sample n cuts r (rw edge at counted) (rw edge at by) fits)

@@ -21,7 +21,7 @@ use Rattle.rows.specs.declared.Sides.{Sides}
 use Rattle.rows.specs.declared.Cuts.{Cuts}
 use Rattle.pointplaces.specs.declared.places.Point.{Point}
 use Rattle.rows.specs.Rows.{sizeOf, nextNumber}
-use Rattle.pointplaces.specs.Places.{Rooms, coordinates, written, withPoint, stepOf, pointBy, pointFrom, pointAt, pointsBelow, countBelow, RoomsFor, Placeable, SamplePlaced, Advanced}
+use Rattle.pointplaces.specs.Places.{PointRooms, coordinates, placedFrom, withPlaced, stepOf, pointBy, pointFrom, pointAt, pointsBelow, countBelow, RoomsFor, Placeable, SamplePlaced, Advanced}
 use Rattle.rows.proofs.Cut.{Tested}
 use Rattle.laws.proofs.Lists.{flat-map}
 
@@ -31,39 +31,39 @@ unfolding offset nearest
 offset-fits v0 v1 grey a b c = omega (arith, div-le-self (2 * (unit * apart grey v0) + apart v1 v0) (2 * apart v1 v0))
 
 -- the point that was written, made from the samples that were read, as the definition has it
-pub point-written : (n : Size) (grey : ℕ) (samples : List ℕ) (s axis step number far : ℕ) (p : Point) (before after : Rooms) → step ≡ stepOf n axis
-    → far ≡ offset (getD samples s 0) (getD samples (s + step) 0) grey → p ≡ pointBy n s axis far → after ≡ written before number (p ∷ [])
-    → after ≡ written before number (pointFrom n grey samples s axis ∷ [])
+pub point-written : (n : Size) (grey : ℕ) (samples : List ℕ) (s axis step number far : ℕ) (p : Point) (before after : PointRooms) → step ≡ stepOf n axis
+    → far ≡ offset (getD samples s 0) (getD samples (s + step) 0) grey → p ≡ pointBy n s axis far → after ≡ placedFrom before number (p ∷ [])
+    → after ≡ placedFrom before number (pointFrom n grey samples s axis ∷ [])
 unfolding pointFrom otherEnd
 point-written n grey samples s axis step number far p before after is read made done = rw (done, made, read, is)
 
 -- rooms that keep their lengths keep their room
-pub record SameLengths (before after : Rooms) : Type 0 where
+pub record SameLengths (before after : PointRooms) : Type 0 where
   pub points : length (after .points) ≡ length (before .points)
   pub edges : length (after .edges) ≡ length (before .edges)
   pub marks : length (after .marks) ≡ length (before .marks)
 
-pub room-kept : (count : ℕ) (before after : Rooms) → SameLengths before after → RoomsFor count before → RoomsFor count after
+pub room-kept : (count : ℕ) (before after : PointRooms) → SameLengths before after → RoomsFor count before → RoomsFor count after
 room-kept count before after same fits =
     record { points = omega (arith, fits .points); edges = omega (arith, fits .edges); marks = omega (arith, fits .marks) }
 
 -- what it takes to place a point stands when another edge was passed
-pub still-placeable : (size : Size) (samples : List ℕ) (s axis n next : ℕ) (before after : Rooms) → SameLengths before after → next ≡ n
+pub still-placeable : (size : Size) (samples : List ℕ) (s axis n next : ℕ) (before after : PointRooms) → SameLengths before after → next ≡ n
     → Placeable size samples s axis n before → Placeable size samples s axis next after
 still-placeable size samples s axis n next before after same is able =
     rw is record { there = able .there; differ = able .differ; room = room-kept (n + 1) before after same (able .room) }
 
 -- the three edges of a sample one after the other
-pub sample-steps : (sides : Sides) (grey : ℕ) (samples : List ℕ) (s n : ℕ) (cuts : Cuts) (r : Rooms) (x y z : ℕ) (past-x past-y past-z : Rooms)
-    → x ≡ nextNumber (cuts .x) n → past-x ≡ withPoint (cuts .x) n (pointFrom (sizeOf sides) grey samples s 0) r
-    → y ≡ nextNumber (cuts .y) x → past-y ≡ withPoint (cuts .y) x (pointFrom (sizeOf sides) grey samples s 1) past-x
-    → z ≡ nextNumber (cuts .z) y → past-z ≡ withPoint (cuts .z) y (pointFrom (sizeOf sides) grey samples s 2) past-y
+pub sample-steps : (sides : Sides) (grey : ℕ) (samples : List ℕ) (s n : ℕ) (cuts : Cuts) (r : PointRooms) (x y z : ℕ) (past-x past-y past-z : PointRooms)
+    → x ≡ nextNumber (cuts .x) n → past-x ≡ withPlaced (cuts .x) n (pointFrom (sizeOf sides) grey samples s 0) r
+    → y ≡ nextNumber (cuts .y) x → past-y ≡ withPlaced (cuts .y) x (pointFrom (sizeOf sides) grey samples s 1) past-x
+    → z ≡ nextNumber (cuts .z) y → past-z ≡ withPlaced (cuts .z) y (pointFrom (sizeOf sides) grey samples s 2) past-y
     → SamplePlaced sides grey samples s n z cuts r past-z
 sample-steps sides grey samples s n cuts r x y z past-x past-y past-z nx px ny py nz pz = record { counted = cc; placed = cc }
 
 -- points written after others
-written-append : (r : Rooms) (n next : ℕ) (ps qs : List Point) → next ≡ n + length ps → written (written r n ps) next qs ≡ written r n (ps ++ qs)
-unfolding written
+written-append : (r : PointRooms) (n next : ℕ) (ps qs : List Point) → next ≡ n + length ps → placedFrom (placedFrom r n ps) next qs ≡ placedFrom r n (ps ++ qs)
+unfolding placedFrom
 written-append r n next ps qs is = λ i. record {
   points = flat-sets 3 coordinates (λ p. refl) (r .points) n next ps qs is i;
   edges = map-sets (λ p. p .edge) (r .edges) n next ps qs is i;
@@ -95,20 +95,20 @@ module _ (sides : Sides) (grey : ℕ) (samples masks : List ℕ) where
   count-next-edge e = count-next e cut
 
   -- an edge is passed
-  edge-passed : (e past n : ℕ) (r : Rooms) (b : Bool) (p : Point) → past ≡ e + 1 → n ≡ countBelow sides masks e → cut e ≡ b → p ≡ point e
-      → Advanced sides grey samples masks e past (nextNumber b n) r (withPoint b n p r)
+  edge-passed : (e past n : ℕ) (r : PointRooms) (b : Bool) (p : Point) → past ≡ e + 1 → n ≡ countBelow sides masks e → cut e ≡ b → p ≡ point e
+      → Advanced sides grey samples masks e past (nextNumber b n) r (withPlaced b n p r)
   edge-passed e past n r b p next counted is here = rw next record {
     counted = omega (arith, count-next-edge e, ap one-if is, counted);
     placed = λ origin held. placed b is origin held;
   }
     where
-      placed : (b : Bool) → cut e ≡ b → (origin : Rooms) → r ≡ written origin 0 (below e) → withPoint b n p r ≡ written origin 0 (below (e + 1))
+      placed : (b : Bool) → cut e ≡ b → (origin : PointRooms) → r ≡ placedFrom origin 0 (below e) → withPlaced b n p r ≡ placedFrom origin 0 (below (e + 1))
       placed true is origin held =
           rw (held, here, below-next e true is) (written-append origin 0 n (below e) (point e ∷ []) (omega (arith, counted, length-below e)))
       placed false is origin held = rw (below-next e false is, append-nil) held
 
   -- a run of edges that are not crossed is passed
-  pub none-passed : (e n : ℕ) (r : Rooms) → n ≡ countBelow sides masks e → (len : ℕ) → ((i : ℕ) → i < len → cut (e + i) ≡ false)
+  pub none-passed : (e n : ℕ) (r : PointRooms) → n ≡ countBelow sides masks e → (len : ℕ) → ((i : ℕ) → i < len → cut (e + i) ≡ false)
       → Advanced sides grey samples masks e (e + len) n r r
   unfolding pointsBelow number
   none-passed e n r counted len none = record {
@@ -117,10 +117,10 @@ module _ (sides : Sides) (grey : ℕ) (samples masks : List ℕ) where
   }
 
   -- no edge, and one run after another
-  pub advanced-none : (e n : ℕ) (r : Rooms) → n ≡ countBelow sides masks e → Advanced sides grey samples masks e e n r r
+  pub advanced-none : (e n : ℕ) (r : PointRooms) → n ≡ countBelow sides masks e → Advanced sides grey samples masks e e n r r
   advanced-none e n r counted = record { counted = counted; placed = λ origin held. held }
 
-  pub advanced-on : (a b c m n : ℕ) (r s t : Rooms) → Advanced sides grey samples masks a b m r s → Advanced sides grey samples masks b c n s t
+  pub advanced-on : (a b c m n : ℕ) (r s t : PointRooms) → Advanced sides grey samples masks a b m r s → Advanced sides grey samples masks b c n s t
       → Advanced sides grey samples masks a c n r t
   advanced-on a b c m n r s t one two = record { counted = two .counted; placed = λ origin held. two .placed origin (one .placed origin held) }
 
@@ -132,7 +132,7 @@ module _ (sides : Sides) (grey : ℕ) (samples masks : List ℕ) where
       let along : e % 3 ≡ axis = omega arith in
       rw (sample, along)
 
-  pub sample-passed : (s e n next : ℕ) (cuts : Cuts) (r after : Rooms) → e ≡ 3 * s → n ≡ countBelow sides masks e → Tested sides masks e cuts
+  pub sample-passed : (s e n next : ℕ) (cuts : Cuts) (r after : PointRooms) → e ≡ 3 * s → n ≡ countBelow sides masks e → Tested sides masks e cuts
       → SamplePlaced sides grey samples s n next cuts r after → Advanced sides grey samples masks e (e + 3) next r after
   sample-passed s e n next cuts r after is counted by step =
       let px = point-of s 0 e (omega arith) (omega arith) in
@@ -150,19 +150,19 @@ module _ (sides : Sides) (grey : ℕ) (samples masks : List ℕ) where
   unfolding number countTo sumTo
   none-below = refl
 
-  none-written : (r : Rooms) → r ≡ written r 0 (below 0)
-  unfolding written pointsBelow keepTo joinTo flatMap
+  none-written : (r : PointRooms) → r ≡ placedFrom r 0 (below 0)
+  unfolding placedFrom pointsBelow keepTo joinTo flatMap
   none-written r = refl
 
   -- from the first edge to past the last
-  pub all-placed : (first past n : ℕ) (r after : Rooms) → first ≡ 0 → past ≡ edgeCount axes (sizeOf sides)
-      → Advanced sides grey samples masks first past n r after → after ≡ written r 0 (below (edgeCount axes (sizeOf sides)))
+  pub all-placed : (first past n : ℕ) (r after : PointRooms) → first ≡ 0 → past ≡ edgeCount axes (sizeOf sides)
+      → Advanced sides grey samples masks first past n r after → after ≡ placedFrom r 0 (below (edgeCount axes (sizeOf sides)))
   all-placed first past n r after none all so =
       let from-first = rw (none, all) at so in
       from-first .placed r (none-written r)
 
   -- the rooms hold as many points as there are crossed edges
-  pub room-for-all : (r : Rooms) → RoomsFor (length (pointEdges axes (sizeOf sides) (maskAbove (sides .nx) masks))) r → RoomsFor (countBelow sides masks (edgeCount axes (sizeOf sides))) r
+  pub room-for-all : (r : PointRooms) → RoomsFor (length (pointEdges axes (sizeOf sides) (maskAbove (sides .nx) masks))) r → RoomsFor (countBelow sides masks (edgeCount axes (sizeOf sides))) r
   unfolding pointEdges number
   room-for-all r fits = rw (length-keep (edgeCount axes (sizeOf sides)) cut) at fits
 
@@ -186,24 +186,24 @@ module _ (sides : Sides) (grey : ℕ) (samples masks : List ℕ) where
   length-places es = length-flat 3 (place axes (sizeOf sides) grey samples) (λ e. refl) es
 
   -- past the last edge the points are laid in the rooms
-  module _ (origin r : Rooms) (held : r ≡ written origin 0 (below (edgeCount axes (sizeOf sides)))) where
+  module _ (origin r : PointRooms) (held : r ≡ placedFrom origin 0 (below (edgeCount axes (sizeOf sides)))) where
     abbrev crossings : List ℕ
     crossings = pointEdges axes (sizeOf sides) (maskAbove (sides .nx) masks)
 
     pub places-laid : 3 * length crossings ≤ length (origin .points)
         → r .points ≡ laid (flatMap (place axes (sizeOf sides) grey samples) crossings) (origin .points)
-    unfolding written pointsBelow pointEdges
+    unfolding placedFrom pointsBelow pointEdges
     places-laid fits =
         ap (λ r. r .points) held
         ∙ ap (sets (origin .points) 0) (places-of crossings)
         ∙ sets-front (origin .points) (flatMap (place axes (sizeOf sides) grey samples) crossings) (omega (arith, length-places crossings))
 
     pub edges-laid : length crossings ≤ length (origin .edges) → r .edges ≡ laid crossings (origin .edges)
-    unfolding written pointsBelow pointEdges
+    unfolding placedFrom pointsBelow pointEdges
     edges-laid fits = ap (λ r. r .edges) held ∙ ap (sets (origin .edges) 0) (edges-of crossings) ∙ sets-front (origin .edges) crossings fits
 
     pub marks-laid : length crossings ≤ length (origin .marks) → r .marks ≡ laid (map (mark axes (sizeOf sides)) crossings) (origin .marks)
-    unfolding written pointsBelow pointEdges
+    unfolding placedFrom pointsBelow pointEdges
     marks-laid fits =
         ap (λ r. r .marks) held
         ∙ ap (sets (origin .marks) 0) (marks-of crossings)

@@ -18,16 +18,16 @@ use Rattle.pointplaces.specs.declared.places.Point.{Point}
 use Rattle.rows.specs.Rows.{Ready, sizeOf, nextNumber}
 
 -- the three rooms
-pub record Rooms : Type 0 where
+pub record PointRooms : Type 0 where
   pub points : List ℕ
   pub edges : List ℕ
   pub marks : List ℕ
 
-abbrev pub rooms : List ℕ → List ℕ → List ℕ → Rooms
-rooms ps es ms = record { points = ps; edges = es; marks = ms }
+abbrev pub pointRooms : List ℕ → List ℕ → List ℕ → PointRooms
+pointRooms ps es ms = record { points = ps; edges = es; marks = ms }
 
 -- there is room for so many points
-pub record RoomsFor (count : ℕ) (r : Rooms) : Type 0 where
+pub record RoomsFor (count : ℕ) (r : PointRooms) : Type 0 where
   pub points : 3 * count ≤ length (r .points)
   pub edges : count ≤ length (r .edges)
   pub marks : count ≤ length (r .marks)
@@ -36,9 +36,9 @@ pub record RoomsFor (count : ℕ) (r : Rooms) : Type 0 where
 abbrev pub coordinates : Point → List ℕ
 coordinates p = p .x ∷ p .y ∷ p .z ∷ []
 
-unfoldable pub written : Rooms → ℕ → List Point → Rooms
-written r n ps =
-    rooms (sets (r .points) (3 * n) (flatMap coordinates ps)) (sets (r .edges) n (map (λ p. p .edge) ps)) (sets (r .marks) n (map (λ p. p .mark) ps))
+unfoldable pub placedFrom : PointRooms → ℕ → List Point → PointRooms
+placedFrom r n ps =
+    pointRooms (sets (r .points) (3 * n) (flatMap coordinates ps)) (sets (r .edges) n (map (λ p. p .edge) ps)) (sets (r .marks) n (map (λ p. p .mark) ps))
 
 -- the point on the edge that leaves sample s along an axis, so far along it
 unfoldable pub pointBy : Size → ℕ → ℕ → ℕ → Point
@@ -67,28 +67,28 @@ abbrev pub stepOf : Size → ℕ → ℕ
 stepOf n axis = site n (along (2 ^ axis) 0) (along (2 ^ axis) 1) (along (2 ^ axis) 2)
 
 -- what it takes to place point n on the edge that leaves sample s along an axis: its two ends are samples that differ, and there is room
-pub record Placeable (size : Size) (samples : List ℕ) (s axis n : ℕ) (r : Rooms) : Type 0 where
+pub record Placeable (size : Size) (samples : List ℕ) (s axis n : ℕ) (r : PointRooms) : Type 0 where
   pub there : s + stepOf size axis < length samples
   pub differ : getD samples s 0 ≡ getD samples (s + stepOf size axis) 0 → ⊥
   pub room : RoomsFor (n + 1) r
 
 -- the same for the three edges that leave a sample, the first of whose points is point n
-pub record SamplePlaceable (sides : Sides) (samples : List ℕ) (s n : ℕ) (cuts : Cuts) (r : Rooms) : Type 0 where
+pub record SamplePlaceable (sides : Sides) (samples : List ℕ) (s n : ℕ) (cuts : Cuts) (r : PointRooms) : Type 0 where
   pub along-x : cuts .x ≡ true → Placeable (sizeOf sides) samples s 0 n r
   pub along-y : cuts .y ≡ true → Placeable (sizeOf sides) samples s 1 (nextNumber (cuts .x) n) r
   pub along-z : cuts .z ≡ true → Placeable (sizeOf sides) samples s 2 (nextNumber (cuts .y) (nextNumber (cuts .x) n)) r
 
 -- the rooms past an edge: they change where the edge is crossed
-abbrev pub withPoint : Bool → ℕ → Point → Rooms → Rooms
-withPoint cut n p r = cond cut (written r n (p ∷ [])) r
+abbrev pub withPlaced : Bool → ℕ → Point → PointRooms → PointRooms
+withPlaced cut n p r = cond cut (placedFrom r n (p ∷ [])) r
 
 -- the next number and the rooms past the three edges that leave a sample
-pub record SamplePlaced (sides : Sides) (grey : ℕ) (samples : List ℕ) (s n next : ℕ) (cuts : Cuts) (before after : Rooms) : Type 0 where
+pub record SamplePlaced (sides : Sides) (grey : ℕ) (samples : List ℕ) (s n next : ℕ) (cuts : Cuts) (before after : PointRooms) : Type 0 where
   pub counted : next ≡ nextNumber (cuts .z) (nextNumber (cuts .y) (nextNumber (cuts .x) n))
   pub placed : after
-      ≡ withPoint (cuts .z) (nextNumber (cuts .y) (nextNumber (cuts .x) n)) (pointFrom (sizeOf sides) grey samples s 2)
-      (withPoint (cuts .y) (nextNumber (cuts .x) n) (pointFrom (sizeOf sides) grey samples s 1)
-      (withPoint (cuts .x) n (pointFrom (sizeOf sides) grey samples s 0) before))
+      ≡ withPlaced (cuts .z) (nextNumber (cuts .y) (nextNumber (cuts .x) n)) (pointFrom (sizeOf sides) grey samples s 2)
+      (withPlaced (cuts .y) (nextNumber (cuts .x) n) (pointFrom (sizeOf sides) grey samples s 1)
+      (withPlaced (cuts .x) n (pointFrom (sizeOf sides) grey samples s 0) before))
 
 -- the samples are the grid's, and the masks say which of them are above
 pub record Given (sides : Sides) (grey : ℕ) (samples masks : List ℕ) : Type 0 where
@@ -112,7 +112,7 @@ pointsBelow sides grey samples masks e = map (pointAt (sizeOf sides) grey sample
 
 -- The rooms come from holding the points on the edges below `first` to holding those below `past`: if they were the rooms `origin` with the
 -- one written from the front on, they are now `origin` with the other. The next number goes along.
-pub record Advanced (sides : Sides) (grey : ℕ) (samples masks : List ℕ) (first past next : ℕ) (before after : Rooms) : Type 0 where
+pub record Advanced (sides : Sides) (grey : ℕ) (samples masks : List ℕ) (first past next : ℕ) (before after : PointRooms) : Type 0 where
   pub counted : next ≡ countBelow sides masks past
-  pub placed : (origin : Rooms) → before ≡ written origin 0 (pointsBelow sides grey samples masks first)
-      → after ≡ written origin 0 (pointsBelow sides grey samples masks past)
+  pub placed : (origin : PointRooms) → before ≡ placedFrom origin 0 (pointsBelow sides grey samples masks first)
+      → after ≡ placedFrom origin 0 (pointsBelow sides grey samples masks past)

@@ -9,7 +9,7 @@ ghost use Rattle.grid.specs.Limits.{mostSide};
 ghost use Rattle.grid.specs.Grid.{axes, isEnd, someFace, onFaceFrom};
 ghost use Rattle.grid.specs.Work.{SidesFit};
 ghost use Rattle.rows.specs.Rows.{sizeOf, firstEdge, nextNumber};
-ghost use Rattle.pointplaces.specs.Places.{rooms, Standing, RoomsFor, Placeable, SamplePlaceable, written, withPoint, stepOf, pointBy, pointFrom, SamplePlaced, Given, countBelow, countAll, Advanced};
+ghost use Rattle.pointplaces.specs.Places.{pointRooms, Standing, RoomsFor, Placeable, SamplePlaceable, placedFrom, withPlaced, stepOf, pointBy, pointFrom, SamplePlaced, Given, countBelow, countAll, Advanced};
 use grid::limits::UNIT;
 use rows::Cuts;
 use rows::Sides;
@@ -108,9 +108,9 @@ fn point_on(sides: Sides, at: Sample, axis: u32, offset: u32) -> Point
 
 // Writes a point to the three rooms, at its number.
 fn write_point(p: Point, n: usize, points: &mut [u32], edges: &mut [u32], marks: &mut [u8])
-    requires { ⌜ RoomsFor (n + 1) (rooms (now points) (now edges) (now marks)) ⌝ }
-    ensures { λ _. ⌜ rooms (now (points .exit)) (now (edges .exit)) (now (marks .exit))
-        ≡ written (rooms (now (points .entry)) (now (edges .entry)) (now (marks .entry))) n (p ∷ []) ⌝ }
+    requires { ⌜ RoomsFor (n + 1) (pointRooms (now points) (now edges) (now marks)) ⌝ }
+    ensures { λ _. ⌜ pointRooms (now (points .exit)) (now (edges .exit)) (now (marks .exit))
+        ≡ placedFrom (pointRooms (now (points .entry)) (now (edges .entry)) (now (marks .entry))) n (p ∷ []) ⌝ }
 {
     let first = 3 * n;
     points[first] = p.x;
@@ -135,11 +135,11 @@ fn place_edge(
 ) -> usize
     requires { ⌜ Standing sides at ⌝ }
     requires { ⌜ axis < 3 ⌝ }
-    requires { ⌜ (cut ≡ true → Placeable (sizeOf sides) (now samples) (at .s) axis n (rooms (now points) (now edges) (now marks))) ⌝ }
+    requires { ⌜ (cut ≡ true → Placeable (sizeOf sides) (now samples) (at .s) axis n (pointRooms (now points) (now edges) (now marks))) ⌝ }
     ensures { λ r. ⌜ r ≡ nextNumber cut n ⌝ }
-    ensures { λ r. ⌜ rooms (now (points .exit)) (now (edges .exit)) (now (marks .exit))
-        ≡ withPoint cut n (pointFrom (sizeOf sides) grey (now (samples .entry)) (at .s) axis)
-        (rooms (now (points .entry)) (now (edges .entry)) (now (marks .entry))) ⌝ }
+    ensures { λ r. ⌜ pointRooms (now (points .exit)) (now (edges .exit)) (now (marks .exit))
+        ≡ withPlaced cut n (pointFrom (sizeOf sides) grey (now (samples .entry)) (at .s) axis)
+        (pointRooms (now (points .entry)) (now (edges .entry)) (now (marks .entry))) ⌝ }
 {
     if !cut {
         return n;
@@ -165,10 +165,10 @@ fn place_sample(
     marks: &mut [u8],
 ) -> usize
     requires { ⌜ Standing sides at ⌝ }
-    requires { ⌜ SamplePlaceable sides (now samples) (at .s) from cuts (rooms (now points) (now edges) (now marks)) ⌝ }
+    requires { ⌜ SamplePlaceable sides (now samples) (at .s) from cuts (pointRooms (now points) (now edges) (now marks)) ⌝ }
     ensures { λ r. ⌜ SamplePlaced sides grey (now (samples .entry)) (at .s) from r cuts
-        (rooms (now (points .entry)) (now (edges .entry)) (now (marks .entry)))
-        (rooms (now (points .exit)) (now (edges .exit)) (now (marks .exit))) ⌝ }
+        (pointRooms (now (points .entry)) (now (edges .entry)) (now (marks .entry)))
+        (pointRooms (now (points .exit)) (now (edges .exit)) (now (marks .exit))) ⌝ }
 {
     let n = place_edge(
         cuts.x,
@@ -202,11 +202,11 @@ fn place_row(
     requires { ⌜ Given sides grey (now samples) (now masks) ⌝ }
     requires { ⌜ y < sides .ny ⌝ }
     requires { ⌜ z < sides .nz ⌝ }
-    requires { ⌜ RoomsFor (countAll sides (now masks)) (rooms (now points) (now edges) (now marks)) ⌝ }
+    requires { ⌜ RoomsFor (countAll sides (now masks)) (pointRooms (now points) (now edges) (now marks)) ⌝ }
     requires { ⌜ from ≡ countBelow sides (now masks) (firstEdge sides y z) ⌝ }
     ensures { λ r. ⌜ Advanced sides grey (now (samples .entry)) (now (masks .entry)) (firstEdge sides y z) (firstEdge sides (y + 1) z) r
-        (rooms (now (points .entry)) (now (edges .entry)) (now (marks .entry)))
-        (rooms (now (points .exit)) (now (edges .exit)) (now (marks .exit))) ⌝ }
+        (pointRooms (now (points .entry)) (now (edges .entry)) (now (marks .entry)))
+        (pointRooms (now (points .exit)) (now (edges .exit)) (now (marks .exit))) ⌝ }
 {
     let row = row_at(sides, y, z, masks);
     let first = sides.nx * (y + sides.ny * z);
@@ -240,11 +240,11 @@ pub fn place_layer(
 ) -> usize
     requires { ⌜ Given sides grey (now samples) (now masks) ⌝ }
     requires { ⌜ z < sides .nz ⌝ }
-    requires { ⌜ RoomsFor (countAll sides (now masks)) (rooms (now points) (now edges) (now marks)) ⌝ }
+    requires { ⌜ RoomsFor (countAll sides (now masks)) (pointRooms (now points) (now edges) (now marks)) ⌝ }
     requires { ⌜ from ≡ countBelow sides (now masks) (firstEdge sides 0 z) ⌝ }
     ensures { λ r. ⌜ Advanced sides grey (now (samples .entry)) (now (masks .entry)) (firstEdge sides 0 z) (firstEdge sides 0 (z + 1)) r
-        (rooms (now (points .entry)) (now (edges .entry)) (now (marks .entry)))
-        (rooms (now (points .exit)) (now (edges .exit)) (now (marks .exit))) ⌝ }
+        (pointRooms (now (points .entry)) (now (edges .entry)) (now (marks .entry)))
+        (pointRooms (now (points .exit)) (now (edges .exit)) (now (marks .exit))) ⌝ }
 {
     let mut n = from;
     let mut y: usize = 0;

@@ -18,7 +18,7 @@ use Rattle.mesh.proofs.Passed.{passed}
 use Rattle.records.specs.declared.Shell.{Shell}
 use Rattle.shellnumbers.specs.Numbering.{Numbering}
 use Rattle.records.specs.Record.{recordOf}
-use Rattle.shellnumbers.specs.Lists.{Outcome, left, roomsFit, refusal, early, Lists, refused, crowded, granted}
+use Rattle.shellnumbers.specs.Lists.{Outcome, left, shellRoomsFit, refusal, early, Lists, refused, crowded, granted}
 use Rattle.shells.proofs.Few.{no-more-than-points}
 use Rattle.writing.specs.Writing.{outcome}
 use Rattle.meshtext.specs.MeshText.{meshText, listsFit, recordsFit, Holds, meshWritten}
@@ -49,7 +49,7 @@ pub record Told (points triangles marks : List ℕ) (o : Outcome) (records : Lis
 module _ (points triangles marks numbers work : List ℕ) (passes : meshNumber points triangles marks ≡ 0) (few : length marks ≤ mostListed)
     (whole : length numbers ≡ length marks) (twice : length work ≡ 2 * length marks) where
   nothing-refused : early points triangles marks numbers work ≡ 0
-  unfolding refusal roomsFit
+  unfolding refusal shellRoomsFit
   nothing-refused = rw (passes, eq-eqb (length numbers) (length marks) whole, eq-eqb (length work) (2 * length marks) twice)
 
   pub told : (o : Outcome) (records records′ : List ℕ) (volumes volumes′ : List ℤ) → Listing points triangles marks numbers work records volumes o records′ volumes′ → Told points triangles marks o records′ volumes′

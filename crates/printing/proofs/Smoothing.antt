@@ -8,12 +8,12 @@ use Rattle.grid.specs.Limits.{mostRounds, mostWeight}
 use Rattle.mesh.specs.Mesh.{triangleCount, trianglesOf}
 use Rattle.mesh.specs.Check.{meshNumber}
 use Rattle.rounds.specs.Round.{rounds}
-use Rattle.smooth.specs.Smooth.{roomsFit, smoothNumber, smoothed}
+use Rattle.smooth.specs.Smooth.{smoothRoomsFit, smoothNumber, smoothed}
 
 module _ (points triangles marks : List ℕ) (k w : ℕ) (second work : List ℕ) (passes : meshNumber points triangles marks ≡ 0) (few : k ≤ mostRounds) (light : w ≤ mostWeight)
     (places : length second ≡ 3 * length marks) (room : length work ≡ 6 * triangleCount triangles + 5 * length marks + 1) where
   number-none : smoothNumber points triangles marks k w second work ≡ 0
-  unfolding smoothNumber roomsFit
+  unfolding smoothNumber smoothRoomsFit
   number-none =
       rw (
         passes,

@@ -7,7 +7,7 @@ use native.Mathlib.Numerals.{add-one}
 use native.Mathlib.Omega.{arith}
 use lib.ListN.{length, take, drop, set, length-drop}
 use lib.Seq.{take-suc-set, drop-set-add, take-add}
-use Rattle.reading.specs.Reading.{Got, bad, got, after, readField, readRow, Rows, malformed, rows, ahead, lineThen, readRows}
+use Rattle.reading.specs.Reading.{Got, bad, got, after, readField, readRow, GotRows, malformed, rows, ahead, lineThen, readRows}
 use Rattle.lines.specs.Line.{endOf}
 
 -- numbers read before a line goes on
@@ -66,12 +66,12 @@ module _ (room : List ℕ) (base i v : ℕ) (l : base + i < length room) where
   stands-next = rw (add-one, drop-set-add base room i v) (take-suc-set (drop base room) i v (rw length-drop (omega arith)))
 
 -- rows read before the others
-ahead-none : (read : Rows) → ahead [] read ≡ read
+ahead-none : (read : GotRows) → ahead [] read ≡ read
 unfolding ahead
 ahead-none (malformed line) = refl
 ahead-none (rows ns) = refl
 
-ahead-ahead : (ns ms : List ℕ) (read : Rows) → ahead ns (ahead ms read) ≡ ahead (ns ++ ms) read
+ahead-ahead : (ns ms : List ℕ) (read : GotRows) → ahead ns (ahead ms read) ≡ ahead (ns ++ ms) read
 unfolding ahead
 ahead-ahead ns ms (malformed line) = refl
 ahead-ahead ns ms (rows ls) = rw append-assoc

@@ -15,7 +15,7 @@ use Rattle.laws.specs.Sum.{All}
 use Rattle.laws.proofs.Sums.{all-append}
 use Rattle.laws.proofs.Ranges.{all-entries, join-cong, join-zero, join-first}
 use Rattle.lines.specs.Decimal.{decimal, isDigit}
-use Rattle.reading.specs.Reading.{Got, bad, got, after, digitsOn, readNumber, endedBy, readField, readRow, Rows, malformed, rows, ahead, lineThen, readRows}
+use Rattle.reading.specs.Reading.{Got, bad, got, after, digitsOn, readNumber, endedBy, readField, readRow, GotRows, malformed, rows, ahead, lineThen, readRows}
 use Rattle.lines.specs.Line.{endOf, line}
 use Rattle.reading.proofs.Digits.{never, digits-stop, digits-over, digits-next, digits-done, number-empty, number-zero, number-none, number-starts, number-written, number-read}
 use Rattle.lines.proofs.Decimals.{of-digit}
@@ -185,7 +185,7 @@ rows-read most width (suc k) at ns bs l h =
     whole : (ms ls : List ℕ) → AreLines most width (suc k) (ms ++ ls) bs → rows (ms ++ ls) ≡ rows ns → AreLines most width (suc k) ns bs
     whole ms ls a h = let q : ms ++ ls ≡ ns = cc in rw (sym q) a
 
-    others : (ms more : List ℕ) → readRow most width bs ≡ got ms more → (read : Rows) → ((ls : List ℕ) → read ≡ rows ls → AreLines most width k ls more) → ahead ms read ≡ rows ns → AreLines most width (suc k) ns bs
+    others : (ms more : List ℕ) → readRow most width bs ≡ got ms more → (read : GotRows) → ((ls : List ℕ) → read ≡ rows ls → AreLines most width k ls more) → ahead ms read ≡ rows ns → AreLines most width (suc k) ns bs
     others ms more e (malformed line) further h = never-rows h
     others ms more e (rows ls) further h = whole ms ls (lines-more most width k ms ls bs more (row-read most width ms bs more l e) (further ls refl)) h
 

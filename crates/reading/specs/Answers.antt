@@ -5,7 +5,7 @@ use mathlib.Core.Bool.{cond}
 use Prim.Native.Nat.{ℕ, _≤_}
 use lib.Dec.{eqb}
 use lib.ListN.{length, drop}
-use Rattle.reading.specs.Reading.{Got, bad, got, Rows, malformed, rows}
+use Rattle.reading.specs.Reading.{Got, bad, got, GotRows, malformed, rows}
 use Rattle.reading.specs.declared.Field.{Field}
 use Rattle.reading.specs.declared.Line.{Line}
 
@@ -24,5 +24,5 @@ unfoldable pub answeredLine : List ℕ → Line → List ℕ → Got (List ℕ)
 answeredLine input r numbers = cond (r .ok) (got numbers (drop (r .next) input)) bad
 
 -- 0, and the numbers of all lines stand in a room; or the malformed line
-unfoldable pub answeredRows : ℕ → List ℕ → Rows
+unfoldable pub answeredRows : ℕ → List ℕ → GotRows
 answeredRows line numbers = cond (eqb line 0) (rows numbers) (malformed line)

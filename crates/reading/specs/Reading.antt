@@ -45,19 +45,19 @@ readRow most (suc k) bs =
 
 -- lines of so many numbers to the end of the text: their numbers, or the number of the first line that is malformed. After the last line,
 -- bytes are a malformed line; before it, the end of the text is
-pub data Rows : Type 0 where
-  malformed : ℕ → Rows
-  rows : List ℕ → Rows
+pub data GotRows : Type 0 where
+  malformed : ℕ → GotRows
+  rows : List ℕ → GotRows
 
-unfoldable pub ahead : List ℕ → Rows → Rows
+unfoldable pub ahead : List ℕ → GotRows → GotRows
 ahead ns (malformed line) = malformed line
 ahead ns (rows ms) = rows (ns ++ ms)
 
-unfoldable pub lineThen : ℕ → (List ℕ → Rows) → Got (List ℕ) → Rows
+unfoldable pub lineThen : ℕ → (List ℕ → GotRows) → Got (List ℕ) → GotRows
 lineThen line others bad = malformed line
 lineThen line others (got ns rest) = ahead ns (others rest)
 
-unfoldable pub readRows : ℕ → ℕ → ℕ → ℕ → List ℕ → Rows
+unfoldable pub readRows : ℕ → ℕ → ℕ → ℕ → List ℕ → GotRows
 readRows most width zero line [] = rows []
 readRows most width zero line (b ∷ bs) = malformed line
 readRows most width (suc k) line bs = lineThen line (readRows most width k (line + 1)) (readRow most width bs)

@@ -11,10 +11,10 @@ use borrow.Author.Tests.{leb-true, not-true, not-false}
 use Rattle.laws.proofs.Tests.{both}
 use Rattle.grid.specs.Limits.{mostWeight, mostPoints, mostCoordinate}
 use Rattle.rounds.specs.Round.{moved, movedIf}
-use Rattle.rounds.specs.Steps.{Small, NamesTo, Held, heldSum, heldStart, heldCount, heldPoint}
+use Rattle.rounds.specs.Steps.{SmallPlaces, NamesTo, Held, heldSum, heldStart, heldCount, heldPoint}
 use Rattle.rounds.proofs.Summing.{held-most}
 
-module _ (at : ℕ) (work : List ℕ) (mark w : ℕ) (old : List ℕ) (p v : ℕ) (l : p < v) (held : Held at work v) (long : length old ≡ 3 * v) (small : Small old) where
+module _ (at : ℕ) (work : List ℕ) (mark w : ℕ) (old : List ℕ) (p v : ℕ) (l : p < v) (held : Held at work v) (long : length old ≡ 3 * v) (small : SmallPlaces old) where
   abbrev from : ℕ
   from = heldStart at work p
 
@@ -51,6 +51,6 @@ module _ (at : ℕ) (work : List ℕ) (mark w : ℕ) (old : List ℕ) (p v : ℕ
   -- what summing up asks
   pub sum-ready : at + v < length work
       → ((from ≤ getD work (at + p + 1) 0) × (getD work (at + p + 1) 0 ≤ length work))
-      × ((d ≤ mostPoints) × (NamesTo d from old work × Small old))
+      × ((d ≤ mostPoints) × (NamesTo d from old work × SmallPlaces old))
   sum-ready room =
       ((held .ordered p l, omega (arith, held .ended p l)), (omega (arith, held .counted p l, held .few), (λ k m. omega (arith, held .named p k l m), small)))

@@ -9,7 +9,7 @@ use Rattle.laws.specs.Range.{sumTo}
 use Rattle.laws.proofs.Ranges.{sum-next, sum-most}
 use Rattle.grid.specs.Limits.{mostCoordinate}
 use Rattle.rounds.specs.Round.{coordinateOf}
-use Rattle.rounds.specs.Steps.{Small, NamesTo, heldSum}
+use Rattle.rounds.specs.Steps.{SmallPlaces, NamesTo, heldSum}
 
 module _ (old work : List ℕ) (from : ℕ) where
   pub held-first : (a : ℕ) → 0 ≡ heldSum old work from (from - from) a
@@ -25,7 +25,7 @@ module _ (old work : List ℕ) (from : ℕ) where
       let here : from + (i - from) ≡ i = omega arith in
       sym (rw (n, sum-next (i - from) (λ k. coordinateOf old (getD work (from + k) 0) a), here, is))
 
-  pub held-most : Small old → (n a : ℕ) → heldSum old work from n a ≤ n * mostCoordinate
+  pub held-most : SmallPlaces old → (n a : ℕ) → heldSum old work from n a ≤ n * mostCoordinate
   unfolding heldSum
   held-most small n a =
       omega (arith, sum-most mostCoordinate n (λ k. coordinateOf old (getD work (from + k) 0) a) (λ k l. small (3 * getD work (from + k) 0 + a)), mul-comm mostCoordinate n)

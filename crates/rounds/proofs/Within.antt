@@ -21,10 +21,10 @@ use Rattle.mesh.specs.Mesh.{trianglesOf}
 use Rattle.mesh.specs.Check.{allWithin, meshNumber}
 use Rattle.mesh.proofs.Passed.{passed, passes-again}
 use Rattle.rounds.specs.Round.{moved, movedIf, coordinateOf, movedFrom, round, rounds}
-use Rattle.rounds.specs.Steps.{Small}
+use Rattle.rounds.specs.Steps.{SmallPlaces}
 use Rattle.rounds.proofs.Weighed.{moved-small}
 
-small-append : (xs ys : List ℕ) → Small xs → Small ys → Small (xs ++ ys)
+small-append : (xs ys : List ℕ) → SmallPlaces xs → SmallPlaces ys → SmallPlaces (xs ++ ys)
 small-append xs ys a b i = go (decLt i (length xs))
   where
     go : Dec (i < length xs) → getD (xs ++ ys) i 0 ≤ mostCoordinate
@@ -42,10 +42,10 @@ moved-if-small mark w d p s lw lp ls = go (eqb mark 0 && leb 1 d) refl
     go false e = lp
 
 module _ (ts : List Triangle) (marks : List ℕ) (w : ℕ) (lw : w ≤ mostWeight) where
-  pub round-small : (old : List ℕ) → Small old → Small (round ts marks w old)
+  pub round-small : (old : List ℕ) → SmallPlaces old → SmallPlaces (round ts marks w old)
   unfolding round
   round-small old small =
-      of-join Small (λ i. omega arith) small-append (length marks) (λ p. let new = movedFrom (getD marks p 0) w old p (neighbours (length marks) ts p) in new 0 ∷ new 1 ∷ new 2 ∷ []) (λ p l i. three p i)
+      of-join SmallPlaces (λ i. omega arith) small-append (length marks) (λ p. let new = movedFrom (getD marks p 0) w old p (neighbours (length marks) ts p) in new 0 ∷ new 1 ∷ new 2 ∷ []) (λ p l i. three p i)
     where
       one : (p a : ℕ) → movedFrom (getD marks p 0) w old p (neighbours (length marks) ts p) a ≤ mostCoordinate
       one p a =
@@ -59,13 +59,13 @@ module _ (ts : List Triangle) (marks : List ℕ) (w : ℕ) (lw : w ≤ mostWeigh
       three p (suc (suc zero)) = one p 2
       three p (suc (suc (suc i))) = omega arith
 
-  pub rounds-small : (k : ℕ) (points : List ℕ) → Small points → Small (rounds ts marks w k points)
+  pub rounds-small : (k : ℕ) (points : List ℕ) → SmallPlaces points → SmallPlaces (rounds ts marks w k points)
   unfolding rounds
   rounds-small zero points h = h
   rounds-small (suc k) points h = round-small (rounds ts marks w k points) (rounds-small k points h)
 
   -- check 8 of what smoothing leaves
-  pub rounds-within : (k : ℕ) (points : List ℕ) → Small points → allWithin mostCoordinate (rounds ts marks w k points) ≡ true
+  pub rounds-within : (k : ℕ) (points : List ℕ) → SmallPlaces points → allWithin mostCoordinate (rounds ts marks w k points) ≡ true
   unfolding allWithin
   rounds-within k points h =
       all-holds (length (rounds ts marks w k points)) (λ i. leb (getD (rounds ts marks w k points) i 0) mostCoordinate)

@@ -8,8 +8,8 @@ use Rattle.grid.specs.Limits.{mostPoints, mostCoordinate}
 use Rattle.rounds.specs.Round.{movedIf, coordinateOf}
 
 -- no coordinate is over the limit
-abbrev pub Small : List ℕ → Type 0
-Small points = (i : ℕ) → getD points i 0 ≤ mostCoordinate
+abbrev pub SmallPlaces : List ℕ → Type 0
+SmallPlaces points = (i : ℕ) → getD points i 0 ≤ mostCoordinate
 
 -- the sum of coordinate a over the points that stand in the room from a place on, n of them
 unfoldable pub heldSum : List ℕ → List ℕ → ℕ → ℕ → ℕ → ℕ

@@ -8,7 +8,7 @@ ghost use lib.ListN.{length};
 ghost use lib.Seq.{sets};
 ghost use Rattle.grid.specs.Limits.{mostWeight, mostPoints, mostCoordinate};
 ghost use Rattle.rounds.specs.Round.{moved as movedTo};
-ghost use Rattle.rounds.specs.Steps.{Small, NamesTo, CopiedFrom, Held, SameTo, heldSum, heldPoint, heldRound};
+ghost use Rattle.rounds.specs.Steps.{SmallPlaces, NamesTo, CopiedFrom, Held, SameTo, heldSum, heldPoint, heldRound};
 use grid::limits::MOST_WEIGHT;
 
 // ((256 - w)·d·p + w·S) / (256·d) to the nearest, halves up: where coordinate p of a point goes that has d neighbours whose coordinates sum up to S.
@@ -35,7 +35,7 @@ fn sum_up(from: usize, end: usize, old: &[u32], work: &[u32]) -> Sums
     requires { ⌜ (from ≤ end) × (end ≤ length (now work)) ⌝ }
     requires { ⌜ end - from ≤ mostPoints ⌝ }
     requires { ⌜ NamesTo (end - from) from (now old) (now work) ⌝ }
-    requires { ⌜ Small (now old) ⌝ }
+    requires { ⌜ SmallPlaces (now old) ⌝ }
     ensures x { λ r. ⌜ r .x ≡ heldSum (now (old .entry)) (now (work .entry)) from (end - from) 0 ⌝ }
     ensures y { λ r. ⌜ r .y ≡ heldSum (now (old .entry)) (now (work .entry)) from (end - from) 1 ⌝ }
     ensures z { λ r. ⌜ r .z ≡ heldSum (now (old .entry)) (now (work .entry)) from (end - from) 2 ⌝ }
@@ -89,7 +89,7 @@ fn place(
     requires { ⌜ p < v ⌝ }
     requires { ⌜ Held at (now work) v ⌝ }
     requires { ⌜ length (now old) ≡ 3 * v ⌝ }
-    requires { ⌜ Small (now old) ⌝ }
+    requires { ⌜ SmallPlaces (now old) ⌝ }
     requires { ⌜ (at + v < to) × (to + 2 < length (now work)) ⌝ }
     ensures { λ _. ⌜ now (work .exit) ≡ sets (now (work .entry)) to (heldPoint at (now (work .entry)) mark weight (now (old .entry)) p) ⌝ }
 {
@@ -132,7 +132,7 @@ pub fn round(
     requires { ⌜ weight ≤ mostWeight ⌝ }
     requires { ⌜ Held at (now work) (length (now marks)) ⌝ }
     requires { ⌜ length (now smoothed) ≡ 3 * length (now marks) ⌝ }
-    requires { ⌜ Small (now smoothed) ⌝ }
+    requires { ⌜ SmallPlaces (now smoothed) ⌝ }
     requires { ⌜ (at + length (now marks) < second) × (second + 3 * length (now marks) ≤ length (now work)) ⌝ }
     ensures moved { λ _. ⌜ now (smoothed .exit) ≡ heldRound at (now (work .entry)) (now (marks .entry)) weight (now (smoothed .entry)) ⌝ }
     ensures kept { λ _. ⌜ SameTo second (now (work .entry)) (now (work .exit)) ⌝ }

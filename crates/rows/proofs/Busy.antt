@@ -16,7 +16,7 @@ use Rattle.grid.specs.Grid.{axes, crossed}
 use Rattle.masks.specs.Masks.{maskAbove}
 use Rattle.rows.specs.declared.Sides.{Sides}
 use Rattle.rows.specs.declared.Row.{Row}
-use Rattle.rows.specs.Rows.{Ready, sizeOf, firstEdge, ownMask, behindMask, overMask, RowFrom, Busy}
+use Rattle.rows.specs.Rows.{Ready, sizeOf, firstEdge, ownMask, behindMask, overMask, RowFrom, BusySamples}
 use Rattle.rows.proofs.Cut.{same-ends, cut-x, cut-y, cut-z}
 
 -- the word that has a bit set, within the full mask, where a sample differs from one of its neighbours
@@ -41,7 +41,7 @@ module _ (row : Row) (full : ℕ) where
         sym (bit-xor (row .here) (row .over) x) ∙ rest .1,
       )
 
-  pub busy-of : Busy full row (bitAnd full differing)
+  pub busy-of : BusySamples full row (bitAnd full differing)
   busy-of = record {
     within = λ x set. both (bit full x) (bit differing x) (sym (bit-and full differing x) ∙ set) .0;
     same-x = λ x inside none. alike _ _ (none-differ x inside none .0);
@@ -64,7 +64,7 @@ pub record Found (sides : Sides) (masks : List ℕ) (y z word x b : ℕ) : Type 
   pub left : b / 2 ^ trailingZeros 64 b / 2 ≡ halved word (x + trailingZeros 64 b + 1)
 
 module _ (sides : Sides) (ready : Ready sides) (masks : List ℕ) (y z : ℕ) (hy : y < sides .ny) (hz : z < sides .nz) (row : Row)
-    (from : RowFrom (sides .ny) (sides .nz) masks y z 0 row) (word : ℕ) (by : Busy (sides .full) row word) where
+    (from : RowFrom (sides .ny) (sides .nz) masks y z 0 row) (word : ℕ) (by : BusySamples (sides .full) row word) where
   abbrev cut : ℕ → Bool
   cut = crossed axes (sizeOf sides) (maskAbove (sides .nx) masks)
 

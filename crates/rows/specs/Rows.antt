@@ -44,21 +44,21 @@ pub record RowFrom (ny nz : ℕ) (masks : List ℕ) (y z x : ℕ) (row : Row) : 
   pub over : row .over ≡ halved (overMask ny nz masks y z) x
 
 -- the word's bits are set within the full mask alone, and where one is not set the sample's neighbours are above or below as it is
-pub record Busy (full : ℕ) (row : Row) (word : ℕ) : Type 0 where
+pub record BusySamples (full : ℕ) (row : Row) (word : ℕ) : Type 0 where
   pub within : (x : ℕ) → bit word x ≡ true → bit full x ≡ true
   pub same-x : (x : ℕ) → bit full x ≡ true → bit word x ≡ false → bit (row .here) x ≡ bit (row .here) (x + 1)
   pub same-y : (x : ℕ) → bit full x ≡ true → bit word x ≡ false → bit (row .here) x ≡ bit (row .behind) x
   pub same-z : (x : ℕ) → bit full x ≡ true → bit word x ≡ false → bit (row .here) x ≡ bit (row .over) x
 
 -- do the lowest bits of two masks differ
-abbrev pub parted : ℕ → ℕ → Bool
-parted a b = xor (eqb (a % 2) 1) (eqb (b % 2) 1)
+abbrev pub lowestDiffer : ℕ → ℕ → Bool
+lowestDiffer a b = xor (eqb (a % 2) 1) (eqb (b % 2) 1)
 
 -- the crossed edges of the row's next sample
 pub record Parted (more : Bool) (row : Row) (cuts : Cuts) : Type 0 where
-  pub along-x : cuts .x ≡ (more && parted (row .here) (row .here / 2))
-  pub along-y : cuts .y ≡ parted (row .here) (row .behind)
-  pub along-z : cuts .z ≡ parted (row .here) (row .over)
+  pub along-x : cuts .x ≡ (more && lowestDiffer (row .here) (row .here / 2))
+  pub along-y : cuts .y ≡ lowestDiffer (row .here) (row .behind)
+  pub along-z : cuts .z ≡ lowestDiffer (row .here) (row .over)
 
 -- the row with its first x samples passed
 abbrev pub halvedBy : Row → ℕ → Row

@@ -4,7 +4,7 @@ ghost use mathlib.Core.Bool.{true, cond, _&&_};
 ghost use Prim.Native.Nat.{_+_, _*_, _<_};
 ghost use lib.ListN.{getD};
 ghost use Rattle.grid.specs.Work.{SidesFit};
-ghost use Rattle.rows.specs.Rows.{RowFrom, Busy, parted, Parted, halvedBy};
+ghost use Rattle.rows.specs.Rows.{RowFrom, BusySamples, lowestDiffer, Parted, halvedBy};
 
 // The sides of a grid, and the mask of a row whose samples are all above.
 pub struct Sides {
@@ -56,7 +56,7 @@ pub fn row_at(sides: Sides, y: usize, z: usize, masks: &[u64; 4096]) -> Row
 // The word whose bit x is set unless none of the three edges that leave sample x is crossed. The last sample's edge along x, which is not
 // there, may count as crossed.
 pub fn busy_word(row: Row, full: u64) -> u64
-    ensures { λ r. ⌜ Busy full row r ⌝ }
+    ensures { λ r. ⌜ BusySamples full row r ⌝ }
 {
     let along = row.here ^ (row.here / 2);
     let aside = (row.here ^ row.behind) | (row.here ^ row.over);
@@ -65,7 +65,7 @@ pub fn busy_word(row: Row, full: u64) -> u64
 
 // Is one of two samples above and the other below, by the lowest bits of their masks?
 fn differ(there: bool, a: u64, b: u64) -> bool
-    ensures { λ r. ⌜ r ≡ (there && parted a b) ⌝ }
+    ensures { λ r. ⌜ r ≡ (there && lowestDiffer a b) ⌝ }
 {
     if there { a % 2 != b % 2 } else { false }
 }

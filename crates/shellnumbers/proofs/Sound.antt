@@ -10,7 +10,7 @@ use borrow.Author.Tests.{eqb-true}
 use Rattle.laws.proofs.Tests.{both}
 use Rattle.mesh.specs.Check.{meshNumber}
 use Rattle.mesh.proofs.Passed.{Passed as MeshPassed, passed as mesh-passed}
-use Rattle.shellnumbers.specs.Lists.{roomsFit, refusal}
+use Rattle.shellnumbers.specs.Lists.{shellRoomsFit, refusal}
 
 -- no number, so none before it
 no-number : (n k : ℕ) → cond (not (eqb n 0)) n k ≡ 0 → (n ≡ 0) × (k ≡ 0)
@@ -36,9 +36,9 @@ pub record Passed (points triangles marks : List ℕ) (numbers work : ℕ) : Typ
   pub work-long : work ≡ 2 * length marks
 
 pub passed : (points triangles marks : List ℕ) (numbers work : ℕ) → refusal points triangles marks numbers work ≡ 0 → Passed points triangles marks numbers work
-unfolding refusal roomsFit
+unfolding refusal shellRoomsFit
 passed points triangles marks numbers work h =
     let v = length marks in
     let m = no-number (meshNumber points triangles marks) _ h in
-    let r = both (eqb numbers v) (eqb work (2 * v)) (not-three (roomsFit v numbers work) (m .1)) in
+    let r = both (eqb numbers v) (eqb work (2 * v)) (not-three (shellRoomsFit v numbers work) (m .1)) in
     record { mesh = mesh-passed points triangles marks (m .0); numbers-long = eqb-true _ _ (r .0); work-long = eqb-true _ _ (r .1) }

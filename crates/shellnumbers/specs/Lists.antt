@@ -20,14 +20,14 @@ abbrev pub left : ℕ → ℕ → List ℕ → List ℕ → Outcome
 left number shells numbers work = record { number = number; shells = shells; numbers = numbers; work = work }
 
 -- 3: the list of shell numbers is V long and the work room 2V
-unfoldable pub roomsFit : ℕ → ℕ → ℕ → Bool
-roomsFit v numbers work = eqb numbers v && eqb work (2 * v)
+unfoldable pub shellRoomsFit : ℕ → ℕ → ℕ → Bool
+shellRoomsFit v numbers work = eqb numbers v && eqb work (2 * v)
 
 -- the first of 6, 7, 8, 9, 3 that holds, or 0
 unfoldable pub refusal : List ℕ → List ℕ → List ℕ → ℕ → ℕ → ℕ
 refusal points triangles marks numbers work =
     let mesh = meshNumber points triangles marks in
-    cond (not (eqb mesh 0)) mesh (cond (not (roomsFit (length marks) numbers work)) 3 0)
+    cond (not (eqb mesh 0)) mesh (cond (not (shellRoomsFit (length marks) numbers work)) 3 0)
 
 module _ (points triangles marks : List ℕ) where
   -- the refusal that these rooms meet

@@ -12,7 +12,7 @@ use Rattle.records.specs.declared.Shell.{Shell}
 use Rattle.shellnumbers.specs.Numbering.{Numbering}
 use Rattle.shellnumbers.specs.Lists.{left, Lists, refused, crowded, granted}
 use Rattle.shells.specs.Promise.{recordsAfter, Shells}
-use Rattle.shells.specs.Filled.{filled, FillFits}
+use Rattle.shells.specs.Filled.{recordsFilled, FillFits}
 use Rattle.shellnumbers.proofs.Sound.{Passed, passed}
 use Rattle.shells.proofs.Made.{fill-fits, made}
 
@@ -65,7 +65,7 @@ module _ (points triangles marks numbers work : List ℕ) (room : List Shell) (n
     pub can-fill : FillFits points triangles marks found shells room
     can-fill = fill-fits points triangles marks found shells room (length numbers) (length work) (grants .ok) (grants .numbering) (grants .fits)
 
-    pub ends-granted : (records : List Shell) → records ≡ filled points triangles marks found shells room
+    pub ends-granted : (records : List Shell) → records ≡ recordsFilled points triangles marks found shells room
         → Shells points triangles marks numbers work room (left number shells found after) records
     unfolding recordsAfter
     ends-granted records e =

@@ -22,7 +22,7 @@ use Rattle.records.specs.declared.Shell.{Shell}
 use Rattle.shellnumbers.specs.Numbering.{numberOf, Numbering}
 use Rattle.records.specs.Record.{sixfold, pointsUnder, namesUnder, trianglesUnder, recordFrom, recordOf}
 use Rattle.records.specs.Grown.{none, withPoint, withTriangle, PointFits, TriangleFits}
-use Rattle.shells.specs.Filled.{changed, emptied, pointsAdded, trianglesAdded, filled, PointTurn, TriangleTurn, FillFits}
+use Rattle.shells.specs.Filled.{changed, emptied, pointsAdded, trianglesAdded, recordsFilled, PointTurn, TriangleTurn, FillFits}
 use Rattle.mesh.proofs.Passed.{corners}
 use Rattle.shellnumbers.proofs.Sound.{Passed}
 use Rattle.records.proofs.OneNumber.{one-number}
@@ -188,7 +188,7 @@ module _ (points triangles marks found : List ℕ) (shells : ℕ) (room : List S
       ap (λ v. recordFrom points triangles marks (keepTo v byPoint) (keepTo (triangleCount triangles) byTriangle)) (N .long)
       ∙ ap (recordFrom points triangles marks (keepTo (length marks) byPoint)) (keep-cong (triangleCount triangles) byTriangle (λ k. namesUnder found n (triangleAt triangles k)) (λ k l. sym (one-number triangles found (length marks) shells (ok .mesh .corners-fit) N n k l)))
 
-  pub made : filled points triangles marks found shells room ≡ laid (listTo shells (recordOf points triangles marks found)) room
+  pub made : recordsFilled points triangles marks found shells room ≡ laid (listTo shells (recordOf points triangles marks found)) room
   made =
       triangles-to (triangleCount triangles) (omega arith)
       ∙ ap (λ xs. laid xs room) (list-cong shells (partly points triangles marks found shells room enough (length found) (triangleCount triangles)) (recordOf points triangles marks found) (λ n l. whole n))

@@ -61,8 +61,8 @@ TrianglesFit points triangles numbers records =
     (k : ℕ) → k < triangleCount triangles → TriangleTurn points triangles numbers (trianglesAdded points triangles numbers k records) k
 
 -- all records made, from nothing
-abbrev pub filled : List ℕ → List ℕ → List ℕ → List ℕ → ℕ → List Shell → List Shell
-filled points triangles marks numbers shells records =
+abbrev pub recordsFilled : List ℕ → List ℕ → List ℕ → List ℕ → ℕ → List Shell → List Shell
+recordsFilled points triangles marks numbers shells records =
     trianglesAdded points triangles numbers (triangleCount triangles) (pointsAdded marks numbers (length numbers) (emptied shells records))
 
 -- all records can be made

@@ -8,7 +8,7 @@ ghost use Rattle.shellnumbers.specs.Lists.{left};
 ghost use Rattle.records.specs.Record.{sixfold as sixfoldOf};
 ghost use Rattle.records.specs.Grown.{none, withPoint, withTriangle};
 ghost use Rattle.shells.specs.Promise.{Shells};
-ghost use Rattle.shells.specs.Filled.{PointTurn, PointsFit, TriangleTurn, TrianglesFit, changed, emptied, pointsAdded, trianglesAdded, filled, FillFits};
+ghost use Rattle.shells.specs.Filled.{PointTurn, PointsFit, TriangleTurn, TrianglesFit, changed, emptied, pointsAdded, trianglesAdded, recordsFilled, FillFits};
 use records::Shell;
 use records::blank;
 use records::number_at;
@@ -107,7 +107,7 @@ fn fill(
     marks: &[u8],
 )
     requires { ⌜ FillFits (now points) (now triangles) (now marks) (now numbers) shells (now records) ⌝ }
-    ensures { λ _. ⌜ now (records .exit) ≡ filled (now (points .entry)) (now (triangles .entry)) (now (marks .entry)) (now (numbers .entry)) shells (now (records .entry)) ⌝ }
+    ensures { λ _. ⌜ now (records .exit) ≡ recordsFilled (now (points .entry)) (now (triangles .entry)) (now (marks .entry)) (now (numbers .entry)) shells (now (records .entry)) ⌝ }
 {
     empty(records, shells);
     add_points(records, numbers, marks);

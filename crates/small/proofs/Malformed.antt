@@ -5,7 +5,7 @@ use Prim.Native.Nat.{ℕ, _≤_}
 use native.Mathlib.Omega.{arith}
 use lib.ListN.{length, replicate, length-replicate}
 use Rattle.grid.specs.Limits.{mostSmall}
-use Rattle.gridtext.specs.Grid.{refusal, refused}
+use Rattle.gridtext.specs.Grid.{refusedAnswer, refused}
 use Rattle.gridtext.specs.Malformed.{MalformedAt}
 use Rattle.writing.specs.Writing.{refusalText}
 use Rattle.gridtext.proofs.FirstMalformed.{malformed-first, first-refused}
@@ -20,7 +20,7 @@ module _ (input : List ℕ) where
   line-first e = malformed-first input (replicate mostSmall 0) holds e
 
   module _ (at : ℕ) (m : MalformedAt input at) where
-    is-refused : parsed input ≡ refusal 12 at
+    is-refused : parsed input ≡ refusedAnswer 12 at
     unfolding refused
     is-refused = ap (λ o. o .answer) (first-refused input (replicate mostSmall 0) holds at m)
 

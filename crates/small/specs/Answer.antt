@@ -12,21 +12,21 @@ use Rattle.closed.specs.Left.{Mesh}
 use Rattle.writing.specs.Writing.{refusalText}
 use Rattle.printing.specs.Prints.{afterRounds, Prints}
 use Rattle.gridtext.specs.Grid.{readGrid}
-use Rattle.gridtext.specs.GridText.{Small, sizeOf, gridText}
+use Rattle.gridtext.specs.GridText.{Small, headSize, gridText}
 use Rattle.gridtext.specs.declared.Head.{Head}
 use Rattle.gridtext.specs.declared.Parsed.{Parsed}
 
 module _ (h : Head) (samples : List ℕ) where
   -- extract
   unfoldable pub gridEdges : List ℕ
-  gridEdges = pointEdges axes (sizeOf h) (isAboveGrey (h .grey) samples)
+  gridEdges = pointEdges axes (headSize h) (isAboveGrey (h .grey) samples)
 
   unfoldable pub extractedMesh : Mesh
   extractedMesh =
       record {
-        points = flatMap (place axes (sizeOf h) (h .grey) samples) gridEdges;
-        triangles = flat (mesh (sizeOf h) (isAboveGrey (h .grey) samples));
-        marks = map (mark axes (sizeOf h)) gridEdges;
+        points = flatMap (place axes (headSize h) (h .grey) samples) gridEdges;
+        triangles = flat (mesh (headSize h) (isAboveGrey (h .grey) samples));
+        marks = map (mark axes (headSize h)) gridEdges;
       }
 
   -- smooth by the stated rounds and weight

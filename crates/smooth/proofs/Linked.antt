@@ -11,13 +11,13 @@ use Rattle.laws.proofs.Ranges.{sum-cong, join-cong, count-le}
 use Rattle.laws.proofs.Some.{sum-places}
 use Rattle.mesh.specs.Mesh.{trianglesOf}
 use Rattle.mesh.specs.Neighbours.{neighbours, shareSide}
-use Rattle.neighbours.specs.Lists.{listOf, startOf, Listed, Lists}
+use Rattle.neighbours.specs.Lists.{listOf, startOf, Listed, ListsFit}
 use Rattle.neighbours.proofs.Listing.{list-below, start-next, starts-most}
 use Rattle.neighbours.proofs.Summed.{list-sum, list-length}
 use Rattle.rounds.specs.Round.{coordinateOf, movedFrom, round}
 use Rattle.rounds.specs.Steps.{Held, SameTo, heldSum, heldStart, heldCount, heldPoint, heldRound}
 
-module _ (ts : List ℕ) (v at size : ℕ) (ok : Lists ts v at size) (work : List ℕ) (h : Listed ts v at work) where
+module _ (ts : List ℕ) (v at size : ℕ) (ok : ListsFit ts v at size) (work : List ℕ) (h : Listed ts v at work) where
   last : (p : ℕ) → p < v → getD work (at + p + 1) 0 ≡ startOf ts p + length (listOf ts p)
   last p l =
       let e : at + p + 1 ≡ at + (p + 1) = omega arith in

@@ -10,9 +10,9 @@ use Rattle.laws.specs.Mesh.{Triangle}
 use Rattle.mesh.specs.Mesh.{triangleCount, trianglesOf}
 use Rattle.mesh.proofs.Passed.{Passed}
 use Rattle.grid.specs.Limits.{mostWeight}
-use Rattle.neighbours.specs.Lists.{Listed, Lists}
+use Rattle.neighbours.specs.Lists.{Listed, ListsFit}
 use Rattle.rounds.specs.Round.{round, rounds}
-use Rattle.rounds.specs.Steps.{Small, SameTo, CopiedFrom, Held, heldRound}
+use Rattle.rounds.specs.Steps.{SmallPlaces, SameTo, CopiedFrom, Held, heldRound}
 use Rattle.rounds.proofs.Within.{rounds-small, length-rounds}
 use Rattle.smooth.proofs.Linked.{lists-held, round-held, listed-kept}
 
@@ -30,7 +30,7 @@ module _ (points triangles marks : List ℕ) (ok : Passed points triangles marks
   abbrev second : ℕ
   second = at + 2 * v + 1
 
-  pub lists-ready : (size : ℕ) → size ≡ 6 * triangleCount triangles + 5 * v + 1 → Lists triangles v at size
+  pub lists-ready : (size : ℕ) → size ≡ 6 * triangleCount triangles + 5 * v + 1 → ListsFit triangles v at size
   lists-ready size is =
       record {
         threes = ok .whole;
@@ -50,10 +50,10 @@ module _ (points triangles marks : List ℕ) (ok : Passed points triangles marks
   -- a round more
   module _ (w k : ℕ) (lw : w ≤ mostWeight) (smoothed work : List ℕ) (is : smoothed ≡ rounds (trianglesOf triangles) marks w k points)
       (long : length work ≡ 6 * triangleCount triangles + 5 * v + 1) (listed : Listed triangles v at work) where
-    lists : Lists triangles v at (length work)
+    lists : ListsFit triangles v at (length work)
     lists = lists-ready (length work) long
 
-    pub round-ready : (w ≤ mostWeight) × (Held at work v × ((length smoothed ≡ 3 * v) × (Small smoothed × ((at + v < second) × (second + 3 * v ≤ length work)))))
+    pub round-ready : (w ≤ mostWeight) × (Held at work v × ((length smoothed ≡ 3 * v) × (SmallPlaces smoothed × ((at + v < second) × (second + 3 * v ≤ length work)))))
     round-ready = (
       lw,
       (

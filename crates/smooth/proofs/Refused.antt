@@ -10,7 +10,7 @@ use Rattle.grid.specs.Limits.{mostRounds, mostWeight}
 use Rattle.mesh.specs.Mesh.{triangleCount, trianglesOf}
 use Rattle.mesh.specs.Check.{meshNumber}
 use Rattle.rounds.specs.Round.{rounds}
-use Rattle.smooth.specs.Smooth.{roomsFit, smoothNumber, smoothed}
+use Rattle.smooth.specs.Smooth.{smoothRoomsFit, smoothNumber, smoothed}
 use Rattle.smooth.specs.Promise.{Smooths}
 
 module _ (points triangles marks : List ℕ) (k w : ℕ) (second work : List ℕ) where
@@ -39,17 +39,17 @@ module _ (points triangles marks : List ℕ) (k w : ℕ) (second work : List ℕ
 
     module _ (lk : k ≤ mostRounds) (lw : w ≤ mostWeight) where
       pub refused-second : (length second ≡ 3 * length marks → ⊥) → Answers 3 second work
-      unfolding smoothNumber roomsFit
+      unfolding smoothNumber smoothRoomsFit
       refused-second d = refused 3 (rw (mesh, le-leb k mostRounds lk, le-leb w mostWeight lw, ne-eqb (length second) (3 * length marks) d)) (λ e. absurd (omega arith))
 
       pub refused-work : (length work ≡ 6 * triangleCount triangles + 5 * length marks + 1 → ⊥) → Answers 3 second work
-      unfolding smoothNumber roomsFit
+      unfolding smoothNumber smoothRoomsFit
       refused-work d =
           refused 3 (rw (mesh, le-leb k mostRounds lk, le-leb w mostWeight lw, ne-eqb (length work) (6 * triangleCount triangles + 5 * length marks + 1) d, and-false)) (λ e. absurd (omega arith))
 
       -- nothing refuses
       pub granted-rooms : length second ≡ 3 * length marks → length work ≡ 6 * triangleCount triangles + 5 * length marks + 1 → (after left : List ℕ)
           → after ≡ rounds (trianglesOf triangles) marks w k points → _≡_ {A = List ℕ} left (replicate (length work) 0) → Answers 0 after left
-      unfolding smoothed smoothNumber roomsFit
+      unfolding smoothed smoothNumber smoothRoomsFit
       granted-rooms es ew after left ea el =
           rw (mesh, le-leb k mostRounds lk, le-leb w mostWeight lw, eq-eqb (length second) (3 * length marks) es, eq-eqb (length work) (6 * triangleCount triangles + 5 * length marks + 1) ew, ea, el)

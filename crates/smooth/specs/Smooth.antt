@@ -16,8 +16,8 @@ pub record Outcome : Type 0 where
   pub work : List ℕ
 
 -- the second point list has 3V numbers, the work room 6T + 5V + 1
-unfoldable pub roomsFit : ℕ → ℕ → ℕ → ℕ → Bool
-roomsFit v t second work = eqb second (3 * v) && eqb work (6 * t + 5 * v + 1)
+unfoldable pub smoothRoomsFit : ℕ → ℕ → ℕ → ℕ → Bool
+smoothRoomsFit v t second work = eqb second (3 * v) && eqb work (6 * t + 5 * v + 1)
 
 module _ (points triangles marks : List ℕ) (k w : ℕ) (second work : List ℕ) where
   -- 6, 7, 8, 9 of the mesh, then 10, then 3; else 0
@@ -26,7 +26,7 @@ module _ (points triangles marks : List ℕ) (k w : ℕ) (second work : List ℕ
       let mesh = meshNumber points triangles marks in
       cond (not (eqb mesh 0)) mesh
       (cond (not (leb k mostRounds && leb w mostWeight)) 10
-      (cond (not (roomsFit (length marks) (triangleCount triangles) (length second) (length work))) 3 0))
+      (cond (not (smoothRoomsFit (length marks) (triangleCount triangles) (length second) (length work))) 3 0))
 
   -- granted: k rounds from the points, and the work room zero; a refusal leaves both rooms as they were
   unfoldable pub smoothed : Outcome

@@ -8,7 +8,7 @@ use Rattle.laws.proofs.Words.{bit-half, or-clear, xor-clear, and-clear, and-set
 use Rattle.cube.specs.Answer.{count}
 use Rattle.triangles.specs.declared.RowMasks.{RowMasks}
 use Rattle.triangles.specs.Row.{rowCase}
-use Rattle.triangles.specs.Walk.{Busy}
+use Rattle.triangles.specs.Walk.{BusyCubes}
 use Rattle.triangles.proofs.Cases.{AllAt, one-side-empty}
 
 module _ (m : RowMasks) where
@@ -35,7 +35,7 @@ module _ (m : RowMasks) where
       let next : AllAt (bit (m .m00) (x + 1)) m (x + 1) = agree (x + 1) (sym (bit-half apart x) ∙ t .1) in
       one-side-empty (bit (m .m00) x) m x (agree x (t .0)) (subst (λ (b : Bool). AllAt b m (x + 1)) e next)
 
-  pub busy-bits : (full : ℕ) → Busy m full (bitAnd mixed (full / 2))
+  pub busy-bits : (full : ℕ) → BusyCubes m full (bitAnd mixed (full / 2))
   busy-bits full =
       record {
         inside = λ x h. sym (bit-half full x) ∙ and-set mixed (full / 2) x h;

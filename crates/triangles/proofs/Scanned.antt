@@ -13,7 +13,7 @@ use Rattle.cube.specs.Answer.{count}
 use Rattle.triangles.specs.declared.RowMasks.{RowMasks}
 use Rattle.triangles.specs.Row.{masksAfter, masksPast, masksFrom, rowCase}
 use Rattle.masks.specs.Masks.{AllSet}
-use Rattle.triangles.specs.Walk.{Busy}
+use Rattle.triangles.specs.Walk.{BusyCubes}
 use Rattle.triangles.proofs.Steps.{masks-first, masks-next, masks-past}
 
 -- x cubes of the row are passed: the masks are those from cube x on, and so are the bits of the row's busy word b
@@ -36,7 +36,7 @@ pub record Found (row : RowMasks) (cubes b : ℕ) (rest : RowMasks) (busy x k : 
   pub falls : busy / 2 ^ k / 2 < busy
   pub next : (there on : RowMasks) → there ≡ masksPast rest k → on ≡ masksAfter there → Passed row cubes b on (busy / 2 ^ k / 2) (x + k + 1)
 
-module _ (row : RowMasks) (cubes full b : ℕ) (ones : AllSet (cubes + 1) full) (w : Busy row full b) where
+module _ (row : RowMasks) (cubes full b : ℕ) (ones : AllSet (cubes + 1) full) (w : BusyCubes row full b) where
   -- the cubes of the row by their bits
   quiet-at : (x : ℕ) → bit b x ≡ false → x < cubes → count (rowCase row x) ≡ 0
   quiet-at x e l = w .quiet x e (ones (x + 1) ∙ lt-ltb (x + 1) (cubes + 1) (omega arith))

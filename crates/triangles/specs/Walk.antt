@@ -14,7 +14,7 @@ use Rattle.triangles.specs.declared.Layer.{Layer}
 use Rattle.triangles.specs.Row.{rowCase, rowNumbers, layerNumbers}
 
 -- a word has a bit set only at cubes whose second samples are in the row, and of those cubes all that have a triangle
-pub record Busy (row : RowMasks) (full busy : ℕ) : Type 0 where
+pub record BusyCubes (row : RowMasks) (full busy : ℕ) : Type 0 where
   pub inside : (x : ℕ) → bit busy x ≡ true → bit full (x + 1) ≡ true
   pub quiet : (x : ℕ) → bit busy x ≡ false → bit full (x + 1) ≡ true → count (rowCase row x) ≡ 0
 

@@ -12,7 +12,7 @@ ghost use Rattle.grid.specs.Mesh.{edgeMesh, mesh};
 ghost use Rattle.grid.specs.Work.{size, SidesFit, Numbered};
 ghost use Rattle.masks.specs.Masks.{maskAbove, AllSet};
 ghost use Rattle.triangles.specs.Row.{masksAt, masksAfter, masksPast, firstCase, rowCount, layerCount, edgeOffset, cubeNumbers, rowNumbers, layerNumbers};
-ghost use Rattle.triangles.specs.Walk.{Busy, LayerFits, CubeRoom, RowRoom, LayerRoom, Written};
+ghost use Rattle.triangles.specs.Walk.{BusyCubes, LayerFits, CubeRoom, RowRoom, LayerRoom, Written};
 
 // The masks of the four rows of samples around a row of cubes: the row at the cubes' y and z, and those one on along y, along z and along both.
 struct RowMasks {
@@ -65,7 +65,7 @@ impl RowMasks {
 
     // The cubes that are neither all above nor all below, a bit each; no other has a triangle.
     fn busy(self, full: u64) -> u64
-        ensures { λ r. ⌜ Busy self full r ⌝ }
+        ensures { λ r. ⌜ BusyCubes self full r ⌝ }
     {
         let m = self.m00;
         let apart = (m ^ self.m10) | (m ^ self.m01) | (m ^ self.m11);

@@ -6,7 +6,7 @@ use mir.Val.{Fits}
 use native.Mathlib.Omega.{arith}
 use lib.ListN.{length}
 use Rattle.mesh.specs.Mesh.{triangleCount}
-use Rattle.neighbours.specs.Lists.{bucketTo, Lists}
+use Rattle.neighbours.specs.Lists.{bucketTo, ListsFit}
 use Rattle.neighbours.proofs.Corners.{Stage, stage-first, begin-ready, count-ready, first-ready, first-put, second-ready, second-put, third-ready, third-put, afterOne, afterTwo}
 use Rattle.neighbours.proofs.fill.Statement.{statement}
 use Rattle.neighbours.proofs.fill.Tie as tie
@@ -20,7 +20,7 @@ abbrev μ-loop : tie.MeasureT-loop
 
 -- the room at the loop's entry is as long as it was lent, so it holds all the parts
 ready : (c : tie.After-begin Inv-loop μ-loop) → let a = c .before .before .before .before .before .before .before .before .before .before .before .before .args in
-    Lists (a .triangles .now) (a .v) (a .at) (length (c .begin .last .1 .1 .0))
+    ListsFit (a .triangles .now) (a .v) (a .at) (length (c .begin .last .1 .1 .0))
 ready c =
     let same = c .begin .kept .1 .1 .0 ∙ c .before .before .before .before .count .kept .1 .1 .0 ∙ c .before .before .before .before .before .before .before .before .clear .kept .0 in
     rw same (c .before .before .before .before .before .before .before .before .before .before .before .before .pre)

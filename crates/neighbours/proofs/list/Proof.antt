@@ -4,7 +4,7 @@ use Prim.Native.Nat.{_+_, _*_, _-_, _<_, _≤_}
 use native.Mathlib.Omega.{arith}
 use lib.ListN.{length, getD, length-set}
 use Rattle.grid.specs.Limits.{mostPoints, mostTriangles}
-use Rattle.neighbours.specs.Lists.{Lists}
+use Rattle.neighbours.specs.Lists.{ListsFit}
 use Rattle.neighbours.proofs.Listing.{ListedTo, listed-first, places, keep-ready, listed-next, listed-last, starts-most}
 use Rattle.neighbours.proofs.list.Statement.{statement}
 use Rattle.neighbours.proofs.list.Tie as tie
@@ -16,7 +16,7 @@ abbrev μ-loop : tie.MeasureT-loop
 μ-loop triangles v at work₀ from₀ to₀ p₀ work from to p = v - p
 
 -- the room is as long as it was lent, so it holds all the parts
-ready : (c : tie.After-fill Inv-loop μ-loop) → let a = c .before .before .before .before .args in Lists (a .triangles .now) (a .v) (a .at) (length (c .fill .last .1 .1 .1 .0))
+ready : (c : tie.After-fill Inv-loop μ-loop) → let a = c .before .before .before .before .args in ListsFit (a .triangles .now) (a .v) (a .at) (length (c .fill .last .1 .1 .1 .0))
 ready c = rw (c .fill .kept .1 .1 .1 .0) (c .before .before .before .before .pre)
 
 -- what a turn reads and writes is in the room and fits

@@ -5,7 +5,7 @@ use native.Mathlib.Omega.{arith}
 use denote.Ref.{now}
 use Rattle.rows.specs.declared.Sides.{Sides}
 use Rattle.rows.specs.Rows.{firstEdge}
-use Rattle.pointplaces.specs.Places.{Rooms, rooms, RoomsFor, Given, countAll, Advanced}
+use Rattle.pointplaces.specs.Places.{PointRooms, pointRooms, RoomsFor, Given, countAll, Advanced}
 use Rattle.rows.proofs.Bounds.{first-row, past-last}
 use Rattle.pointplaces.proofs.Placing.{SameLengths, room-kept, advanced-none, advanced-on, none-below, all-placed, room-for-all, places-laid, edges-laid, marks-laid}
 use Rattle.pointplaces.proofs.place.Statement.{statement}
@@ -13,8 +13,8 @@ use Rattle.pointplaces.proofs.place.Tie as tie
 
 abbrev Inv-loop : tie.InvT-loop
 Inv-loop nx ny nz grey samples masks points₀ edges₀ marks₀ sides n₀ z₀ points edges marks n z = (z ≤ nz)
-    × SameLengths (rooms points₀ edges₀ marks₀) (rooms points edges marks)
-    × Advanced sides grey samples masks (firstEdge sides 0 0) (firstEdge sides 0 z) n (rooms points₀ edges₀ marks₀) (rooms points edges marks)
+    × SameLengths (pointRooms points₀ edges₀ marks₀) (pointRooms points edges marks)
+    × Advanced sides grey samples masks (firstEdge sides 0 0) (firstEdge sides 0 z) n (pointRooms points₀ edges₀ marks₀) (pointRooms points edges marks)
 
 abbrev μ-loop : tie.MeasureT-loop
 μ-loop nx ny nz grey samples masks points₀ edges₀ marks₀ sides n₀ z₀ points edges marks n z = nz - z
@@ -28,18 +28,18 @@ sides c =
     let a = start c .args in
     record { nx = a .nx; ny = a .ny; nz = a .nz; full = c .full-mask .result }
 
-abbrev first-rooms : tie.After-full-mask Inv-loop μ-loop → Rooms
+abbrev first-rooms : tie.After-full-mask Inv-loop μ-loop → PointRooms
 first-rooms c =
     let a = start c .args in
-    rooms (now (a .points)) (now (a .edges)) (now (a .marks))
+    pointRooms (now (a .points)) (now (a .edges)) (now (a .marks))
 
-abbrev loop-rooms : tie.At-loop Inv-loop μ-loop → Rooms
-loop-rooms l = rooms (l .loop .points) (l .loop .edges) (l .loop .marks)
+abbrev loop-rooms : tie.At-loop Inv-loop μ-loop → PointRooms
+loop-rooms l = pointRooms (l .loop .points) (l .loop .edges) (l .loop .marks)
 
-abbrev past-layer : tie.After-place-layer Inv-loop μ-loop → Rooms
+abbrev past-layer : tie.After-place-layer Inv-loop μ-loop → PointRooms
 past-layer c =
     let last = c .place-layer .last .1 .1 .1 .1 .1 .1 in
-    rooms (last .0) (last .1 .0) (last .1 .1 .0)
+    pointRooms (last .0) (last .1 .0) (last .1 .1 .0)
 
 given : (c : tie.After-full-mask Inv-loop μ-loop) → Given (sides c) (start c .args .grey) (now (start c .args .samples)) (now (start c .args .masks))
 given c =

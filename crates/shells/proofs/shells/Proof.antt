@@ -7,7 +7,7 @@ use Rattle.records.specs.declared.Shell.{Shell}
 use Rattle.shellnumbers.specs.declared.Listed.{Listed}
 use Rattle.shellnumbers.specs.Lists.{left, Lists}
 use Rattle.shells.specs.Promise.{Shells}
-use Rattle.shells.specs.Filled.{filled}
+use Rattle.shells.specs.Filled.{recordsFilled}
 use Rattle.shells.proofs.Ending.{given, none-given, ends-early, enough, can-fill, ends-granted}
 use Rattle.shells.proofs.shells.Code.Mir as mir
 use Rattle.shellnumbers.proofs.list_numbers as list-numbers
@@ -151,8 +151,8 @@ module _ {M : Type 1} (𝓤 : URA M) (H : Heap 𝓤) (A : Atoms 𝓤) (W : Given
         use2 W (raw (Fill 𝓤 H A mem run .pre (to1 r zn zw e none ν₀ δ₀ ν₁ δ₁))) (asked1 r zn zw e none ν₀ δ₀ ν₁ δ₁) $
         calls-at ! fm (Fill 𝓤 H A mem run) known-fill (to1 r zn zw e none ν₀ δ₀ ν₁ δ₁) (and-then ! (load ! (from ! (stop !)) (look ! 18 refl)) (and-then ! (load ! (from ! (fld ! refl (stop !))) (look-in ! 36 (sub ! 1 refl (whole !)))) (and-then ! (load ! (from ! (stop !)) (look ! 14 refl)) (and-then ! (load ! (from ! (stop !)) (look ! 48 refl)) (and-then ! (load ! (from ! (stop !)) (look ! 46 refl)) (and-then ! (load ! (from ! (stop !)) (look ! 44 refl)) (no-more !))))))) (λ w1.
         use1 W (later (some (λ (h : Unit {0}). ((‵ (flft (ν₀ ∷ []) fullShare) ⊛ ‵ (flft (ν₁ ∷ []) fullShare) ⊛ ‵ (flft κ0 q0) ⊛ ‵ (flft κ1 q1) ⊛ ‵ (flft κ2 q2) ⊛ ‵ ftrue) ⊛ ‵ (unit .own h (w1 ∷ []))) ⊛ raw (ensured 𝓤 H A fill.ended (fill.clauses 𝓤 H A mem run) (lfts1 r zn zw e none ν₀ δ₀ ν₁ δ₁) (args1 r zn zw e none ν₀ δ₀ ν₁ δ₁) tt h)))) (id⊢ 𝓤 _) $ await ! tt $ pick ! (λ r1.
-        split ! $ move ! (1 ∷ []) $ use1 W (some (λ (us : List Shell × (Unit {0} × (Unit {0} × (Unit {0} × (Unit {0} × (Unit {0} × Unit {0})))))). ‵ (lasts fill.ended (lfts1 r zn zw e none ν₀ δ₀ ν₁ δ₁) (args1 r zn zw e none ν₀ δ₀ ν₁ δ₁) us) ⊛ raw (fact 𝓤 ((us .0) ≡ filled points triangles marks zn (r .shells) ys)))) (id⊢ 𝓤 _) $ pick ! (λ zs1.
-        split ! $ move ! (1 ∷ []) $ heard ! ((zs1 .0) ≡ filled points triangles marks zn (r .shells) ys) (λ e1. fsplit ! $ fsplit ! $ move ! (1 ∷ []) $ feqL ! (λ l-ys1. move ! (1 ∷ []) $ drop ! $ move ! (1 ∷ []) $ split ! $ move ! (1 ∷ []) $ peeks ! unit (Is unit) (shows 𝓤 H A unit) r1 (w1 ∷ []) (λ is-r1.
+        split ! $ move ! (1 ∷ []) $ use1 W (some (λ (us : List Shell × (Unit {0} × (Unit {0} × (Unit {0} × (Unit {0} × (Unit {0} × Unit {0})))))). ‵ (lasts fill.ended (lfts1 r zn zw e none ν₀ δ₀ ν₁ δ₁) (args1 r zn zw e none ν₀ δ₀ ν₁ δ₁) us) ⊛ raw (fact 𝓤 ((us .0) ≡ recordsFilled points triangles marks zn (r .shells) ys)))) (id⊢ 𝓤 _) $ pick ! (λ zs1.
+        split ! $ move ! (1 ∷ []) $ heard ! ((zs1 .0) ≡ recordsFilled points triangles marks zn (r .shells) ys) (λ e1. fsplit ! $ fsplit ! $ move ! (1 ∷ []) $ feqL ! (λ l-ys1. move ! (1 ∷ []) $ drop ! $ move ! (1 ∷ []) $ split ! $ move ! (1 ∷ []) $ peeks ! unit (Is unit) (shows 𝓤 H A unit) r1 (w1 ∷ []) (λ is-r1.
         land ! (from ! (stop !)) (init ! 24 refl (nothing-lawful 𝓤 H A W .typed r1 _ is-r1 .0)) $ drop ! $ split ! $ move ! (1 ∷ []) $ split ! $ move ! (1 ∷ []) $ split ! $ move ! (1 ∷ []) $ split ! $ move ! (1 ∷ []) $ split ! $ move ! (1 ∷ []) $ drop ! $ move ! (4 ∷ 13 ∷ 14 ∷ 15 ∷ 16 ∷ 5 ∷ []) $ comes ! E tt (length ys) ys (zs1 .0) b-ys o-ys refl room-ys l-ys1 $ move ! (5 ∷ 9 ∷ 10 ∷ 11 ∷ 12 ∷ []) $ shares-back ! (uint-elem w32) tt (length numbers) zn b-numbers o-numbers ln room-numbers $ move ! (9 ∷ 8 ∷ 7 ∷ 0 ∷ 2 ∷ 10 ∷ 6 ∷ 5 ∷ 4 ∷ 1 ∷ 3 ∷ 11 ∷ []) $
         -- [points; triangles; marks; numbers; ys; work; tok0; tok1; tok2; tok3; tok4; tok5; _18; _17; _16; _15; _14; _13; _12; _11; _10; _9; _8; _7; _6; _5; _4; _3; _2; _1; _0]
         assigns ! (of-opd ! (load ! (from ! (stop !)) (look ! 34 refl))) (from ! (stop !)) (init ! 48 refl (EL .lawful 𝓤 H A W .typed r _ is .0)) $

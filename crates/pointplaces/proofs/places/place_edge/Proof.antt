@@ -8,7 +8,7 @@ use lib.ListN.{length, getD}
 use borrow.Author.Needs.{needs}
 use borrow.Author.Tests.{not-true, not-false}
 use Rattle.rows.specs.Rows.{sizeOf}
-use Rattle.pointplaces.specs.Places.{Rooms, rooms, Placeable}
+use Rattle.pointplaces.specs.Places.{PointRooms, pointRooms, Placeable}
 use Rattle.pointplaces.proofs.Placing.{offset-fits, point-written}
 use Rattle.pointplaces.proofs.places.place_edge.Statement.{statement}
 use Rattle.pointplaces.proofs.places.place_edge.Tie as tie
@@ -28,7 +28,7 @@ crossed-here c = not-false _ (c .if1 .left)
 
 able : (c : tie.Else1)
     → let a = start c .args in
-    Placeable (sizeOf (a .sides)) (now (a .samples)) (a .at .s) (a .axis) (a .n) (rooms (now (a .points)) (now (a .edges)) (now (a .marks)))
+    Placeable (sizeOf (a .sides)) (now (a .samples)) (a .at .s) (a .axis) (a .n) (pointRooms (now (a .points)) (now (a .edges)) (now (a .marks)))
 able c = start c .pre .1 .1 (crossed-here c)
 
 -- the other end is a sample too, and differs
@@ -40,13 +40,13 @@ others-differ : (c : tie.After-step-of) → let a = start (c .before) .args in
 others-differ c = rw (c .step-of .ensures) (able (c .before) .differ)
 
 -- the rooms as they come, and past the write
-abbrev first-rooms : tie.Start → Rooms
-first-rooms s = rooms (now (s .args .points)) (now (s .args .edges)) (now (s .args .marks))
+abbrev first-rooms : tie.Start → PointRooms
+first-rooms s = pointRooms (now (s .args .points)) (now (s .args .edges)) (now (s .args .marks))
 
-abbrev past : tie.After-write-point → Rooms
+abbrev past : tie.After-write-point → PointRooms
 past c =
     let last = c .write-point .last .1 .1 in
-    rooms (last .0) (last .1 .0) (last .1 .1 .0)
+    pointRooms (last .0) (last .1 .0) (last .1 .1 .0)
 
 step-of-requires : tie.Need-step-of-requires
 step-of-requires c κs = (start c .pre .0 .fit, start c .pre .1 .0)

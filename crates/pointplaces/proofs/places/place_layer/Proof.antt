@@ -4,7 +4,7 @@ use Prim.Native.Nat.{_+_, _-_, _<_, _≤_}
 use native.Mathlib.Omega.{arith}
 use denote.Ref.{now}
 use Rattle.rows.specs.Rows.{firstEdge}
-use Rattle.pointplaces.specs.Places.{Rooms, rooms, countAll, Advanced}
+use Rattle.pointplaces.specs.Places.{PointRooms, pointRooms, countAll, Advanced}
 use Rattle.rows.proofs.Bounds.{next-layer}
 use Rattle.pointplaces.proofs.Placing.{SameLengths, room-kept, advanced-none, advanced-on}
 use Rattle.pointplaces.proofs.places.place_layer.Statement.{statement}
@@ -12,8 +12,8 @@ use Rattle.pointplaces.proofs.places.place_layer.Tie as tie
 
 abbrev Inv-loop : tie.InvT-loop
 Inv-loop sides grey z from samples masks points₀ edges₀ marks₀ n₀ y₀ points edges marks n y = (y ≤ sides .ny)
-    × SameLengths (rooms points₀ edges₀ marks₀) (rooms points edges marks)
-    × Advanced sides grey samples masks (firstEdge sides 0 z) (firstEdge sides y z) n (rooms points₀ edges₀ marks₀) (rooms points edges marks)
+    × SameLengths (pointRooms points₀ edges₀ marks₀) (pointRooms points edges marks)
+    × Advanced sides grey samples masks (firstEdge sides 0 z) (firstEdge sides y z) n (pointRooms points₀ edges₀ marks₀) (pointRooms points edges marks)
 
 abbrev μ-loop : tie.MeasureT-loop
 μ-loop sides grey z from samples masks points₀ edges₀ marks₀ n₀ y₀ points edges marks n y = sides .ny - y
@@ -22,16 +22,16 @@ abbrev start : tie.At-loop Inv-loop μ-loop → tie.Start Inv-loop μ-loop
 start l = l .before .before .before .before .before
 
 -- the rooms as they come, at the loop's head, and past a row
-abbrev first-rooms : tie.Start Inv-loop μ-loop → Rooms
-first-rooms s = rooms (now (s .args .points)) (now (s .args .edges)) (now (s .args .marks))
+abbrev first-rooms : tie.Start Inv-loop μ-loop → PointRooms
+first-rooms s = pointRooms (now (s .args .points)) (now (s .args .edges)) (now (s .args .marks))
 
-abbrev loop-rooms : tie.At-loop Inv-loop μ-loop → Rooms
-loop-rooms l = rooms (l .loop .points) (l .loop .edges) (l .loop .marks)
+abbrev loop-rooms : tie.At-loop Inv-loop μ-loop → PointRooms
+loop-rooms l = pointRooms (l .loop .points) (l .loop .edges) (l .loop .marks)
 
-abbrev past-row : tie.After-place-row Inv-loop μ-loop → Rooms
+abbrev past-row : tie.After-place-row Inv-loop μ-loop → PointRooms
 past-row c =
     let last = c .place-row .last .1 .1 .1 .1 .1 .1 .1 in
-    rooms (last .0) (last .1 .0) (last .1 .1 .0)
+    pointRooms (last .0) (last .1 .0) (last .1 .1 .0)
 
 -- there is a next row
 row-there : (c : tie.Then1 Inv-loop μ-loop) → c .before .before .loop .y < start (c .before .before) .args .sides .ny

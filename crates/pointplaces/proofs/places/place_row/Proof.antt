@@ -7,7 +7,7 @@ use lib.Count.{trailingZeros}
 use denote.Ref.{now}
 use Rattle.laws.specs.Bits.{halved}
 use Rattle.rows.specs.Rows.{firstEdge}
-use Rattle.pointplaces.specs.Places.{Rooms, rooms, countAll, Advanced}
+use Rattle.pointplaces.specs.Places.{PointRooms, pointRooms, countAll, Advanced}
 use Rattle.rows.proofs.Bounds.{row-small, samples-few, sample-small, next-row}
 use Rattle.rows.proofs.Cut.{row-passed, Tested, tested}
 use Rattle.rows.proofs.Busy.{Found, found, rest-uncut}
@@ -19,8 +19,8 @@ use Rattle.pointplaces.proofs.places.place_row.Tie as tie
 abbrev Inv-loop : tie.InvT-loop
 Inv-loop sides grey y z from samples masks points₀ edges₀ marks₀ row first busy₀ n₀ next₀ points edges marks busy n next = (next ≤ sides .nx)
     × (busy ≡ halved busy₀ next)
-    × SameLengths (rooms points₀ edges₀ marks₀) (rooms points edges marks)
-    × Advanced sides grey samples masks (firstEdge sides y z) (firstEdge sides y z + 3 * next) n (rooms points₀ edges₀ marks₀) (rooms points edges marks)
+    × SameLengths (pointRooms points₀ edges₀ marks₀) (pointRooms points edges marks)
+    × Advanced sides grey samples masks (firstEdge sides y z) (firstEdge sides y z + 3 * next) n (pointRooms points₀ edges₀ marks₀) (pointRooms points edges marks)
 
 abbrev μ-loop : tie.MeasureT-loop
 μ-loop sides grey y z from samples masks points₀ edges₀ marks₀ row first busy₀ n₀ next₀ points edges marks busy n next = sides .nx - next
@@ -29,16 +29,16 @@ abbrev start : tie.At-loop Inv-loop μ-loop → tie.Start Inv-loop μ-loop
 start l = l .before .before .before .before .before .before .before .before .before
 
 -- the rooms as they come, at the loop's head, and past a sample
-abbrev first-rooms : tie.Start Inv-loop μ-loop → Rooms
-first-rooms s = rooms (now (s .args .points)) (now (s .args .edges)) (now (s .args .marks))
+abbrev first-rooms : tie.Start Inv-loop μ-loop → PointRooms
+first-rooms s = pointRooms (now (s .args .points)) (now (s .args .edges)) (now (s .args .marks))
 
-abbrev loop-rooms : tie.At-loop Inv-loop μ-loop → Rooms
-loop-rooms l = rooms (l .loop .points) (l .loop .edges) (l .loop .marks)
+abbrev loop-rooms : tie.At-loop Inv-loop μ-loop → PointRooms
+loop-rooms l = pointRooms (l .loop .points) (l .loop .edges) (l .loop .marks)
 
-abbrev past-sample : tie.After-place-sample Inv-loop μ-loop → Rooms
+abbrev past-sample : tie.After-place-sample Inv-loop μ-loop → PointRooms
 past-sample c =
     let last = c .place-sample .last .1 .1 .1 .1 .1 .1 in
-    rooms (last .0) (last .1 .0) (last .1 .1 .0)
+    pointRooms (last .0) (last .1 .0) (last .1 .1 .0)
 
 -- the sample at x, and the edges that leave it
 abbrev sample-at : tie.Start Inv-loop μ-loop → ℕ → ℕ

@@ -5,7 +5,7 @@ use native.Mathlib.Omega.{arith}
 use denote.Ref.{now}
 use borrow.Author.Needs.{needs}
 use Rattle.rows.specs.Rows.{sizeOf, nextNumber}
-use Rattle.pointplaces.specs.Places.{Rooms, rooms, Placeable}
+use Rattle.pointplaces.specs.Places.{PointRooms, pointRooms, Placeable}
 use Rattle.pointplaces.proofs.Placing.{SameLengths, still-placeable, sample-steps}
 use Rattle.pointplaces.proofs.places.place_sample.Statement.{statement}
 use Rattle.pointplaces.proofs.places.place_sample.Tie as tie
@@ -21,23 +21,23 @@ abbrev before-z : tie.After-place-edge3 → tie.After-place-edge2
 before-z c = c .before .before .before .before .before .before .before .before .before .before
 
 -- the rooms as they come, and past each edge
-abbrev first-rooms : tie.Start → Rooms
-first-rooms c = rooms (now (c .args .points)) (now (c .args .edges)) (now (c .args .marks))
+abbrev first-rooms : tie.Start → PointRooms
+first-rooms c = pointRooms (now (c .args .points)) (now (c .args .edges)) (now (c .args .marks))
 
-abbrev past-x : tie.After-place-edge → Rooms
+abbrev past-x : tie.After-place-edge → PointRooms
 past-x c =
     let last = c .place-edge .last .1 .1 .1 .1 .1 .1 .1 in
-    rooms (last .0) (last .1 .0) (last .1 .1 .0)
+    pointRooms (last .0) (last .1 .0) (last .1 .1 .0)
 
-abbrev past-y : tie.After-place-edge2 → Rooms
+abbrev past-y : tie.After-place-edge2 → PointRooms
 past-y c =
     let last = c .place-edge2 .last .1 .1 .1 .1 .1 .1 .1 in
-    rooms (last .0) (last .1 .0) (last .1 .1 .0)
+    pointRooms (last .0) (last .1 .0) (last .1 .1 .0)
 
-abbrev past-z : tie.After-place-edge3 → Rooms
+abbrev past-z : tie.After-place-edge3 → PointRooms
 past-z c =
     let last = c .place-edge3 .last .1 .1 .1 .1 .1 .1 .1 in
-    rooms (last .0) (last .1 .0) (last .1 .1 .0)
+    pointRooms (last .0) (last .1 .0) (last .1 .1 .0)
 
 same-x : (c : tie.After-place-edge) → SameLengths (first-rooms (before-x c)) (past-x c)
 same-x c =

@@ -4,7 +4,7 @@ use native.Mathlib.Numerals.{add-one, add-two}
 use native.Mathlib.Omega.{arith}
 use lib.ListN.{length-set}
 use borrow.Author.Needs.{needs}
-use Rattle.pointplaces.specs.Places.{written}
+use Rattle.pointplaces.specs.Places.{placedFrom}
 use Rattle.pointplaces.proofs.places.write_point.Statement.{statement}
 use Rattle.pointplaces.proofs.places.write_point.Tie as tie
 
@@ -54,7 +54,7 @@ same-length-3 : tie.Need-same-length-3
 same-length-3 c = search needs
 
 returns : tie.Need-returns
-unfolding written flatMap
+unfolding placedFrom flatMap
 returns c = rw (add-one, add-two)
 
 pub write-point-spec : {M : Type 1} → statement M
