@@ -5,6 +5,8 @@
 --     fits-at          an index below the count, times the element's size, fits a usize.     place-at   where that element lies
 --     opens-at         [Mut ys; the token; ..]  to  [element n; what it owns; the others; the open borrow; obs; auth; ..]
 --     backs-at         back, the element as it was.     puts-at   back, another value in its place: Mut (set ys n h)
+--     lends-row, row-back          [the row ys; ..]  to  [token ν; Mut ν ys; what waits; ..], and from  [token ν; what waits; the last list zs; ..]  to  [the row zs; ..]
+--     shares-row, row-same         the same where the callee takes a `&[E]`: the row comes back as it was
 --     lends, comes     lent again for a lifetime ν of a call: [Mut ys; the token; ..]  to  [token ν; Mut ν ys; four that wait; ..], and from  [token ν; the four; the last list zs; ..]
 --                      to  [Mut zs; the token; ..]
 --     shares-out, shares-back      the same where the callee takes a `&[E]`; it comes back as it was
@@ -138,31 +140,49 @@ module _ {M : Type 1} {𝓤 : URA M} {H : Heap 𝓤} {A : Atoms 𝓤} {K : Type 
       elem-put t (E .R) fullShare ys n h (vals E h) b o l $ closes-slice t z (E .R) ys (set ys n h) (length-set ys n h) b o $ fjoin t $
       pureI t (at-slice (E .R) (ref E b o γ (set ys n h)) (sliceVal (b, o) m ∷ [])) (tt, (tt, tt)) (ap (λ (k : ℕ). sliceVal (b, o) k ∷ []) (sym (length-set ys n h ∙ e)), subst (Room (E .R)) (sym (length-set ys n h ∙ e)) room) $ fjoin t $ s)
 
+  -- ---- a row of elements lent for a call, and back: as a `&mut [E]`, and as a `&[E]`
+  pub lends-row : K → (E : Elem) → Soaks G → (m : ℕ) (ys : List (E .R .Denot)) (b o : ℕ) → length ys ≡ m → Room (E .R) m
+      → ((ν : ℕ) (δ : GName) → Seq K W (‵ (flft (ν ∷ []) fullShare) ∷ ‵ (Mut E (ν ∷ []) δ b o m ys) ∷ ‵ (flent (ν ∷ []) (Held (E .R) (length ys) b o δ)) ∷ Γ) G)
+      → Seq K W (‵ (row (E .R) fullShare ys b o) ∷ Γ) G
+  lends-row t E z m ys b o e room k = lft-new t z (λ ν. move t (1 ∷ []) $ use1 W (‵ (cells (mem (E .R)) ys b o)) (whole-in 𝓤 H A W (E .R) ys b o) $
+      use1 W (later (some (λ (δ : GName). ‵ (Mut E (ν ∷ []) δ b o (length ys) ys) ⊛ ‵ (flent (ν ∷ []) (Held (E .R) (length ys) b o δ))))) (lends-slice 𝓤 H A W (E .R) (named 0) (ν ∷ []) ys b o (subst (Room (E .R)) (sym e) room)) $ await t z $ pick t (λ δ. split t $
+      rewrite t 0 (λ (j : ℕ). ‵ (Mut E (ν ∷ []) δ b o j ys)) e refl $ move t (2 ∷ []) $ k ν δ))
+
+  pub row-back : K → (E : Elem) → Soaks G → {ν : ℕ} {δ : GName} (n : ℕ) (zs : List (E .R .Denot)) (b o : ℕ)
+      → Step K W (‵ (row (E .R) fullShare zs b o) ∷ Γ) G (‵ (flft (ν ∷ []) fullShare) ∷ ‵ (flent (ν ∷ []) (Held (E .R) n b o δ)) ∷ ‵ (finally (E .R) δ zs) ∷ Γ) G
+  row-back t E z {ν} {δ} n zs b o = step (λ s. lft-end t z $ use3 W (later (‵ (Arr (mem (E .R)) n .lies zs b o))) (slice-back 𝓤 H A W (E .R) (ν ∷ []) δ zs n b o) $ await t z $ fsplit t $ drop t $
+      use1 W (‵ (row (E .R) fullShare zs b o)) (whole-out 𝓤 H A W (E .R) zs b o) $ s)
+
+  pub shares-row : K → (E : Elem) → Soaks G → (m : ℕ) (ys : List (E .R .Denot)) (b o : ℕ) → length ys ≡ m → Room (E .R) m
+      → ((ν : ℕ) (δ : GName) → Seq K W (‵ (flft (ν ∷ []) fullShare) ∷ ‵ (Shr E (ν ∷ []) δ b o m ys) ∷ ‵ (flent (ν ∷ []) (Part E fullShare ys b o)) ∷ Γ) G)
+      → Seq K W (‵ (row (E .R) fullShare ys b o) ∷ Γ) G
+  shares-row t E z m ys b o e room k = feqI t ℕ (length ys) (length ys) refl $ fjoin t $ lft-new t z (λ ν. move t (1 ∷ []) $
+      use1 W (later (some (λ (δ : GName). ‵ (Shr E (ν ∷ []) δ b o (length ys) ys) ⊛ ‵ (flent (ν ∷ []) (Part E fullShare ys b o))))) (lends-shr-slice 𝓤 H A W (E .R) (named 0) (ν ∷ []) fullShare ys b o (subst (Room (E .R)) (sym e) room)) $ await t z $ pick t (λ δ. split t $
+      rewrite t 0 (λ (j : ℕ). ‵ (Shr E (ν ∷ []) δ b o j ys)) e refl $ move t (2 ∷ []) $ k ν δ))
+
+  pub row-same : K → (E : Elem) → Soaks G → {ν : ℕ} (ys : List (E .R .Denot)) (b o : ℕ)
+      → Step K W (‵ (row (E .R) fullShare ys b o) ∷ Γ) G (‵ (flft (ν ∷ []) fullShare) ∷ ‵ (flent (ν ∷ []) (Part E fullShare ys b o)) ∷ Γ) G
+  row-same t E z ys b o = step (λ s. lft-end t z $ lent-back t z $ fsplit t $ drop t $ s)
+
   -- ---- lent again for a call
   pub lends : K → (E : Elem) → Soaks G → {κ : Lft} {q : Share} {γ : GName} (m : ℕ) (ys : List (E .R .Denot)) (b o : ℕ) → length ys ≡ m → Room (E .R) m
       → ((ν : ℕ) (δ : GName) → Seq K W (‵ (flft (ν ∷ []) fullShare) ∷ ‵ (Mut E (ν ∷ []) δ b o m ys) ∷ ‵ (flent (ν ∷ []) (Held (E .R) (length ys) b o δ)) ∷ ‵ (fobor κ q (Held (E .R) (length ys) b o γ)) ∷ ‵ (Obs E γ ys) ∷ ‵ (Auth E γ ys) ∷ Γ) G)
       → Seq K W (‵ (Mut E κ γ b o m ys) ∷ ‵ (flft κ q) ∷ Γ) G
-  lends t E z m ys b o e room k = fsplit t $ drop t $ fsplit t $ opens-slice t z (E .R) ys b o $ lft-new t z (λ ν. move t (1 ∷ []) $ use1 W (‵ (cells (mem (E .R)) ys b o)) (whole-in 𝓤 H A W (E .R) ys b o) $
-      use1 W (later (some (λ (δ : GName). ‵ (Mut E (ν ∷ []) δ b o (length ys) ys) ⊛ ‵ (flent (ν ∷ []) (Held (E .R) (length ys) b o δ))))) (lends-slice 𝓤 H A W (E .R) (named 0) (ν ∷ []) ys b o (subst (Room (E .R)) (sym e) room)) $ await t z $ pick t (λ δ. split t $
-      rewrite t 0 (λ (j : ℕ). ‵ (Mut E (ν ∷ []) δ b o j ys)) e refl $ move t (2 ∷ []) $ k ν δ))
+  lends t E z m ys b o e room k = fsplit t $ drop t $ fsplit t $ opens-slice t z (E .R) ys b o $ lends-row t E z m ys b o e room k
 
   pub comes : K → (E : Elem) → Soaks G → {κ : Lft} {q : Share} {γ δ : GName} {ν : ℕ} (m : ℕ) (ys zs : List (E .R .Denot)) (b o : ℕ) → length ys ≡ m → Room (E .R) m → length zs ≡ length ys
       → Step K W (‵ (Mut E κ γ b o m zs) ∷ ‵ (flft κ q) ∷ Γ) G
       (‵ (flft (ν ∷ []) fullShare) ∷ ‵ (flent (ν ∷ []) (Held (E .R) (length ys) b o δ)) ∷ ‵ (fobor κ q (Held (E .R) (length ys) b o γ)) ∷ ‵ (Obs E γ ys) ∷ ‵ (Auth E γ ys) ∷ ‵ (finally (E .R) δ zs) ∷ Γ) G
-  comes t E z {κ} {q} {γ} {δ} {ν} m ys zs b o e room l = step (λ s. lft-end t z $ move t (0 ∷ 1 ∷ 5 ∷ []) $
-      use3 W (later (‵ (Arr (mem (E .R)) (length ys) .lies zs b o))) (slice-back 𝓤 H A W (E .R) (ν ∷ []) δ zs (length ys) b o) $ await t z $ fsplit t $ drop t $
-      use1 W (‵ (row (E .R) fullShare zs b o)) (whole-out 𝓤 H A W (E .R) zs b o) $ closes-slice t z (E .R) ys zs l b o $ fjoin t $
+  comes t E z {κ} {q} {γ} {δ} {ν} m ys zs b o e room l = step (λ s. move t (0 ∷ 1 ∷ 5 ∷ []) $ row-back t E z (length ys) zs b o $ closes-slice t z (E .R) ys zs l b o $ fjoin t $
       pureI t (at-slice (E .R) (ref E b o γ zs) (sliceVal (b, o) m ∷ [])) (tt, (tt, tt)) (ap (λ (k : ℕ). sliceVal (b, o) k ∷ []) (sym (l ∙ e)), subst (Room (E .R)) (sym (l ∙ e)) room) $ fjoin t $ s)
 
   -- ---- lent as a `&[E]` for a call
   pub shares-out : K → (E : Elem) → Soaks G → {κ : Lft} {q : Share} {γ : GName} (m : ℕ) (ys : List (E .R .Denot)) (b o : ℕ) → length ys ≡ m → Room (E .R) m
       → ((ν : ℕ) (δ : GName) → Seq K W (‵ (flft (ν ∷ []) fullShare) ∷ ‵ (Shr E (ν ∷ []) δ b o m ys) ∷ ‵ (flent (ν ∷ []) (Part E fullShare ys b o)) ∷ ‵ (fobor κ q (Held (E .R) (length ys) b o γ)) ∷ ‵ (Obs E γ ys) ∷ ‵ (Auth E γ ys) ∷ Γ) G)
       → Seq K W (‵ (Mut E κ γ b o m ys) ∷ ‵ (flft κ q) ∷ Γ) G
-  shares-out t E z m ys b o e room k = fsplit t $ drop t $ fsplit t $ opens-slice t z (E .R) ys b o $ feqI t ℕ (length ys) (length ys) refl $ fjoin t $ lft-new t z (λ ν. move t (1 ∷ []) $
-      use1 W (later (some (λ (δ : GName). ‵ (Shr E (ν ∷ []) δ b o (length ys) ys) ⊛ ‵ (flent (ν ∷ []) (Part E fullShare ys b o))))) (lends-shr-slice 𝓤 H A W (E .R) (named 0) (ν ∷ []) fullShare ys b o (subst (Room (E .R)) (sym e) room)) $ await t z $ pick t (λ δ. split t $
-      rewrite t 0 (λ (j : ℕ). ‵ (Shr E (ν ∷ []) δ b o j ys)) e refl $ move t (2 ∷ []) $ k ν δ))
+  shares-out t E z m ys b o e room k = fsplit t $ drop t $ fsplit t $ opens-slice t z (E .R) ys b o $ shares-row t E z m ys b o e room k
 
   pub shares-back : K → (E : Elem) → Soaks G → {κ : Lft} {q : Share} {γ : GName} {ν : ℕ} (m : ℕ) (ys : List (E .R .Denot)) (b o : ℕ) → length ys ≡ m → Room (E .R) m
       → Step K W (‵ (Mut E κ γ b o m ys) ∷ ‵ (flft κ q) ∷ Γ) G (‵ (flft (ν ∷ []) fullShare) ∷ ‵ (flent (ν ∷ []) (Part E fullShare ys b o)) ∷ ‵ (fobor κ q (Held (E .R) (length ys) b o γ)) ∷ ‵ (Obs E γ ys) ∷ ‵ (Auth E γ ys) ∷ Γ) G
-  shares-back t E z {κ} {q} {γ} m ys b o e room = step (λ s. lft-end t z $ lent-back t z $ fsplit t $ drop t $ closes-slice t z (E .R) ys ys refl b o $ fjoin t $
+  shares-back t E z {κ} {q} {γ} m ys b o e room = step (λ s. row-same t E z ys b o $ closes-slice t z (E .R) ys ys refl b o $ fjoin t $
       pureI t (at-slice (E .R) (ref E b o γ ys) (sliceVal (b, o) m ∷ [])) (tt, (tt, tt)) (ap (λ (k : ℕ). sliceVal (b, o) k ∷ []) (sym e), subst (Room (E .R)) (sym e) room) $ fjoin t $ s)

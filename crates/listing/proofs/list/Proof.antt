@@ -6,7 +6,7 @@ use lib.IntN.{ℤ}
 use lib.ListN.{replicate, length-replicate}
 use types.Part.{rep}
 use denote.Builtin.{i64}
-use Rattle.walks.proofs.Slices.{uint-elem, Mut as MutOf, ref as refOf, lends, comes}
+use Rattle.walks.proofs.Slices.{uint-elem, Mut as MutOf, ref as refOf, lends, comes, lends-row, row-back, shares-row, row-same}
 use Rattle.shells.proofs.Records.{E, R, EL, RL, tyL, vals as vals-of, typed}
 use Rattle.records.specs.declared.Shell.{Shell}
 use Rattle.shellnumbers.specs.declared.Listed.{Listed}
@@ -14,7 +14,7 @@ use Rattle.records.specs.Grown.{none}
 use Rattle.shellnumbers.specs.Lists.{left}
 use Rattle.shells.specs.Promise.{Shells}
 use Rattle.listing.specs.Listing.{mostListed, numbersHanded, volumesHanded, Listing}
-use Rattle.walks.proofs.Lent.{sint-elem, big-lit, typed-repeat, spreads, gathers, lends-local, local-back, shares-local, local-same}
+use Rattle.walks.proofs.Lent.{sint-elem, big-lit, typed-repeat, spreads, gathers}
 use Rattle.listing.proofs.Handed.{enough, all-handed}
 use Rattle.shells.proofs.shells as called
 use Rattle.shells.proofs.shells.Symbol as called-def
@@ -192,7 +192,7 @@ module _ {M : Type 1} (𝓤 : URA M) (H : Heap 𝓤) (A : Atoms 𝓤) (W : Given
         assigns ! (addr ! (from ! (fld ! refl (hop ! (look-in ! 46 (sub ! 0 refl (whole !))) (stop !))))) (from ! (stop !)) (init ! 31 refl (tt, tt)) $
         assigns ! (agg ! (and-then ! (load ! (from ! (stop !)) (look ! 31 refl)) (and-then ! (load ! (from ! (fld ! refl (stop !))) (look-in ! 46 (sub ! 1 refl (whole !)))) (no-more !)))) (from ! (stop !)) (init ! 29 refl (tt, (tt, (record { fits = room-work .0 }, tt)))) $
         move ! (3 ∷ 10 ∷ []) $ lends ! (uint-elem w32) tt (length numbers) numbers b-numbers o-numbers refl room-numbers (λ ν₀ δ₀.
-        move ! (18 ∷ []) $ lends-local ! E tt mostListed blanks l₉ long room (λ ν₁ δ₁.
+        move ! (18 ∷ []) $ lends-row ! E tt mostListed blanks l₉ 0 long room (λ ν₁ δ₁.
         move ! (14 ∷ 20 ∷ []) $ lends ! (uint-elem w32) tt (length work) work b-work o-work refl room-work (λ ν₂ δ₂.
         move ! (15 ∷ []) $ use1 W (‵ O-points ⊛ ‵ O-points) (shr-slice-copy 𝓤 H A W (named 0) κ0 u32 .twice x-points _) $ split ! $ move ! (17 ∷ []) $ use1 W (‵ O-triangles ⊛ ‵ O-triangles) (shr-slice-copy 𝓤 H A W (named 1) κ1 u32 .twice x-triangles _) $ split ! $ move ! (19 ∷ []) $ use1 W (‵ O-marks ⊛ ‵ O-marks) (shr-slice-copy 𝓤 H A W (named 2) κ2 u8 .twice x-marks _) $ split ! $ nothing ! $ move ! (7 ∷ 0 ∷ []) $ join ! $ move ! (12 ∷ 0 ∷ []) $ join ! $ move ! (14 ∷ 0 ∷ []) $ join ! $ move ! (23 ∷ 0 ∷ []) $ join ! $ move ! (22 ∷ 0 ∷ []) $ join ! $ move ! (21 ∷ 0 ∷ []) $ join ! $ nothing ! $ move ! (8 ∷ 0 ∷ []) $ fjoin ! $ move ! (12 ∷ 0 ∷ []) $ fjoin ! $ move ! (13 ∷ 0 ∷ []) $ fjoin ! $ move ! (2 ∷ 0 ∷ []) $ fjoin ! $ move ! (3 ∷ 0 ∷ []) $ fjoin ! $ move ! (4 ∷ 0 ∷ []) $ fjoin ! $ move ! (1 ∷ 0 ∷ []) $
         use2 W (raw (Called 𝓤 H A mem run .pre (to l₉ ν₀ δ₀ ν₁ δ₁ ν₂ δ₂))) (asked l₉ ν₀ δ₀ ν₁ δ₁ ν₂ δ₂) $
@@ -202,7 +202,7 @@ module _ {M : Type 1} (𝓤 : URA M) (H : Heap 𝓤) (A : Atoms 𝓤) (W : Given
         split ! $ move ! (1 ∷ []) $ heard ! (Shells points triangles marks numbers work blanks (left (r .number) (r .shells) (zs .1 .1 .1 .0) (zs .1 .1 .1 .1 .1 .0)) (zs .1 .1 .1 .1 .0)) (λ e. fsplit ! $ drop ! $ fsplit ! $ drop ! $ fsplit ! $ drop ! $ fsplit ! $ fsplit ! $ move ! (1 ∷ []) $ feqL ! (λ l-numbers. move ! (1 ∷ []) $ fsplit ! $ fsplit ! $ move ! (1 ∷ []) $ feqL ! (λ l-array. move ! (1 ∷ []) $ fsplit ! $ fsplit ! $ move ! (1 ∷ []) $ feqL ! (λ l-work. move ! (1 ∷ []) $ drop ! $ move ! (3 ∷ []) $ split ! $ move ! (1 ∷ []) $ peeks ! RL (Is RL) (shows 𝓤 H A RL) r (w ∷ []) (λ is-r.
         land ! (from ! (stop !)) (init ! 47 refl (EL .lawful 𝓤 H A W .typed r _ is-r .0)) $ rewrite ! 47 (λ (u : Val). ‵ (fat fullShare tyL l₁₀ 0 u)) (ap only (EL .tells r (w ∷ []) is-r)) refl $ drop ! $ split ! $ move ! (1 ∷ []) $ split ! $ move ! (1 ∷ []) $ split ! $ move ! (1 ∷ []) $ split ! $ move ! (1 ∷ []) $ split ! $ move ! (1 ∷ []) $ split ! $ move ! (1 ∷ []) $ drop ! $
         move ! (2 ∷ 17 ∷ 18 ∷ 19 ∷ 20 ∷ 8 ∷ []) $ comes ! (uint-elem w32) tt (length numbers) numbers (zs .1 .1 .1 .0) b-numbers o-numbers refl room-numbers l-numbers $
-        move ! (3 ∷ 16 ∷ 8 ∷ []) $ local-back ! E tt (length blanks) (zs .1 .1 .1 .1 .0) l₉ $
+        move ! (3 ∷ 16 ∷ 8 ∷ []) $ row-back ! E tt (length blanks) (zs .1 .1 .1 .1 .0) l₉ 0 $
         move ! (3 ∷ 11 ∷ 12 ∷ 13 ∷ 14 ∷ 7 ∷ []) $ comes ! (uint-elem w32) tt (length work) work (zs .1 .1 .1 .1 .1 .0) b-work o-work refl room-work l-work $
         move ! (10 ∷ 9 ∷ 8 ∷ 3 ∷ 11 ∷ 12 ∷ 0 ∷ 7 ∷ 6 ∷ 5 ∷ 4 ∷ 13 ∷ 14 ∷ 1 ∷ 2 ∷ []) $
         -- [points; triangles; marks; numbers; records; volumes; work; tok0; tok1; tok2; tok3; tok4; tok5; tok6; array; _23; _22; _21; _20; _19; _18; _17; _16; _15; _14; _13; _12; _11; _10; _8; _7; _6; _5; _4; _3; _2; _1; _0]
@@ -212,7 +212,7 @@ module _ {M : Type 1} (𝓤 : URA M) (H : Heap 𝓤) (A : Atoms 𝓤) (W : Given
         assigns ! (agg ! (and-then ! (load ! (from ! (stop !)) (look ! 21 refl)) (and-then ! (load ! (from ! (fld ! refl (stop !))) (look-in ! 50 (sub ! 1 refl (whole !)))) (no-more !)))) (from ! (stop !)) (init ! 19 refl (tt, (tt, (record { fits = room-records .0 }, tt)))) $
         assigns ! (addr ! (from ! (fld ! refl (hop ! (look-in ! 48 (sub ! 0 refl (whole !))) (stop !))))) (from ! (stop !)) (init ! 17 refl (tt, tt)) $
         assigns ! (agg ! (and-then ! (load ! (from ! (stop !)) (look ! 17 refl)) (and-then ! (load ! (from ! (fld ! refl (stop !))) (look-in ! 48 (sub ! 1 refl (whole !)))) (no-more !)))) (from ! (stop !)) (init ! 15 refl (tt, (tt, (record { fits = room-volumes .0 }, tt)))) $
-        move ! (14 ∷ []) $ shares-local ! E tt mostListed (zs .1 .1 .1 .1 .0) l₉ (l-array ∙ long) room (λ ν₀ δ₀.
+        move ! (14 ∷ []) $ shares-row ! E tt mostListed (zs .1 .1 .1 .1 .0) l₉ 0 (l-array ∙ long) room (λ ν₀ δ₀.
         move ! (7 ∷ 14 ∷ []) $ lends ! (uint-elem w32) tt (length records) records b-records o-records refl room-records (λ ν₁ δ₁.
         move ! (13 ∷ 19 ∷ []) $ lends ! (sint-elem w64) tt (length volumes) volumes b-volumes o-volumes refl room-volumes (λ ν₂ δ₂.
         nothing ! $ move ! (1 ∷ 0 ∷ []) $ join ! $ move ! (6 ∷ 0 ∷ []) $ join ! $ move ! (11 ∷ 0 ∷ []) $ join ! $ nothing ! $ move ! (2 ∷ 0 ∷ []) $ fjoin ! $ move ! (6 ∷ 0 ∷ []) $ fjoin ! $ owned ! usize (Is usize) (uint-makes 𝓤 H A W w64) (r .shells) _ (refl, small (r .shells) (few (r .shells) (enough points triangles marks numbers work blanks (left (r .number) (r .shells) (zs .1 .1 .1 .0) (zs .1 .1 .1 .1 .1 .0)) (zs .1 .1 .1 .1 .0) e))) $ fjoin ! $ move ! (10 ∷ 0 ∷ []) $ fjoin ! $ move ! (1 ∷ 0 ∷ []) $
@@ -222,7 +222,7 @@ module _ {M : Type 1} (𝓤 : URA M) (H : Heap 𝓤) (A : Atoms 𝓤) (W : Given
         split ! $ move ! (1 ∷ []) $ use1 W (some (λ (us : Unit {0} × (Unit {0} × (List ℕ × (List ℤ × Unit {0})))). ‵ (lasts hand-on.ended (lfts1 l₉ (zs .1 .1 .1 .1 .0) (r .shells) ν₀ δ₀ ν₁ δ₁ ν₂ δ₂) (args1 l₉ (zs .1 .1 .1 .1 .0) (r .shells) ν₀ δ₀ ν₁ δ₁ ν₂ δ₂) us) ⊛ raw (fact 𝓤 (((us .1 .1 .0) ≡ numbersHanded (r .shells) (λ n. getD (zs .1 .1 .1 .1 .0) n none) records) × ((us .1 .1 .1 .0) ≡ volumesHanded (r .shells) (λ n. getD (zs .1 .1 .1 .1 .0) n none) volumes))))) (id⊢ 𝓤 _) $ pick ! (λ us.
         split ! $ move ! (1 ∷ []) $ heard ! (((us .1 .1 .0) ≡ numbersHanded (r .shells) (λ n. getD (zs .1 .1 .1 .1 .0) n none) records) × ((us .1 .1 .1 .0) ≡ volumesHanded (r .shells) (λ n. getD (zs .1 .1 .1 .1 .0) n none) volumes)) (λ e1. fsplit ! $ drop ! $ fsplit ! $ drop ! $ fsplit ! $ fsplit ! $ move ! (1 ∷ []) $ feqL ! (λ l-records. move ! (1 ∷ []) $ fsplit ! $ fsplit ! $ move ! (1 ∷ []) $ feqL ! (λ l-volumes. move ! (1 ∷ []) $ drop ! $ move ! (2 ∷ []) $ split ! $ move ! (1 ∷ []) $ peeks ! unit (Is unit) (shows 𝓤 H A unit) r1 (w1 ∷ []) (λ is-r1.
         land ! (from ! (stop !)) (init ! 35 refl (nothing-lawful 𝓤 H A W .typed r1 _ is-r1 .0)) $ drop ! $ split ! $ move ! (1 ∷ []) $ split ! $ move ! (1 ∷ []) $ split ! $ move ! (1 ∷ []) $ drop ! $
-        move ! (2 ∷ 13 ∷ []) $ local-same ! E tt (zs .1 .1 .1 .1 .0) l₉ $
+        move ! (2 ∷ 13 ∷ []) $ row-same ! E tt (zs .1 .1 .1 .1 .0) l₉ 0 $
         move ! (2 ∷ 9 ∷ 10 ∷ 11 ∷ 12 ∷ 4 ∷ []) $ comes ! (uint-elem w32) tt (length records) records (us .1 .1 .0) b-records o-records refl room-records l-records $
         move ! (3 ∷ 5 ∷ 6 ∷ 7 ∷ 8 ∷ 4 ∷ []) $ comes ! (sint-elem w64) tt (length volumes) volumes (us .1 .1 .1 .0) b-volumes o-volumes refl room-volumes l-volumes $
         move ! (5 ∷ 6 ∷ 7 ∷ 8 ∷ 2 ∷ 0 ∷ 9 ∷ 10 ∷ 11 ∷ 12 ∷ 13 ∷ 3 ∷ 1 ∷ 14 ∷ 4 ∷ []) $
