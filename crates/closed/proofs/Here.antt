@@ -9,7 +9,7 @@ use Rattle.grid.specs.Grid.{Size, axes}
 use Rattle.mesh.specs.Mesh.{trianglesOf}
 use Rattle.records.specs.declared.Shell.{Shell}
 use Rattle.shellnumbers.specs.Lists.{Outcome}
-use Rattle.shells.specs.Promise.{Shells}
+use Rattle.shelllist.specs.Promise.{Shells}
 use Rattle.closed.specs.Runs.{Even, Balanced}
 use Rattle.closed.specs.Left.{Mesh, Here, extracted-here, smoothed-here}
 use Rattle.closed.specs.Shell.{SidesStay, Unmarked, trianglesIn, Closed}

@@ -25,7 +25,7 @@ use Rattle.records.specs.declared.Shell.{Shell}
 use Rattle.shellnumbers.specs.Numbering.{numberOf, Numbering}
 use Rattle.records.specs.Record.{anyOf, pointsUnder, namesUnder, trianglesUnder, recordFrom, recordOf}
 use Rattle.shellnumbers.specs.Lists.{Outcome, Lists, refused, crowded, granted}
-use Rattle.shells.specs.Promise.{recordsAfter, Shells}
+use Rattle.shelllist.specs.Promise.{recordsAfter, Shells}
 use Rattle.mesh.proofs.Places.{within-any}
 use Rattle.mesh.proofs.Passed.{corners}
 use Rattle.shellnumbers.proofs.Sound.{passed}

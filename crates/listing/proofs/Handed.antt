@@ -20,7 +20,7 @@ use Rattle.records.specs.declared.Shell.{Shell}
 use Rattle.records.specs.Grown.{none}
 use Rattle.records.specs.Record.{recordOf}
 use Rattle.shellnumbers.specs.Lists.{Outcome, Lists, refused, crowded, granted}
-use Rattle.shells.specs.Promise.{Shells, recordsAfter}
+use Rattle.shelllist.specs.Promise.{Shells, recordsAfter}
 use Rattle.listing.specs.Listing.{mostListed, recordNumbers, numbersHanded, volumesHanded, Listing}
 
 -- four numbers a record

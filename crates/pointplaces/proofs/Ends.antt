@@ -18,7 +18,8 @@ use Rattle.masks.specs.Masks.{maskAbove}
 use Rattle.rows.specs.declared.Sides.{Sides}
 use Rattle.rows.specs.declared.Cuts.{Cuts}
 use Rattle.rows.specs.Rows.{sizeOf, nextNumber}
-use Rattle.pointplaces.specs.Places.{PointRooms, RoomsFor, stepOf, Placeable, SamplePlaceable, Given, countBelow, countAll}
+use Rattle.edgepoints.specs.EdgePoint.{PointRooms, RoomsFor, stepOf, Placeable}
+use Rattle.pointplaces.specs.Places.{SamplePlaceable, Given, countBelow, countAll}
 use Rattle.rows.proofs.Bounds.{sample-small}
 use Rattle.rows.proofs.Cut.{Tested, same-ends}
 use Rattle.pointplaces.proofs.Placing.{count-next-edge}

@@ -1,4 +1,3 @@
--- Marks; the placing; the ends of a crossed edge.
-pub mod Marks
+-- The placing; the ends of a crossed edge.
 pub mod Placing
 pub mod Ends

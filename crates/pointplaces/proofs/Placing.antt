@@ -2,40 +2,26 @@
 use mathlib.Core.Path.{_≡_, refl, ap, fun-ext, _∙_}
 use mathlib.Core.List.{List, [], _∷_, _++_, map, flatMap, map-append, map-map, map-id, append-nil}
 use mathlib.Core.Bool.{Bool, true, false, cond}
-use Prim.Native.Nat.{ℕ, _+_, _*_, _/_, _%_, _^_, _<_, _≤_}
-use native.Mathlib.Nat.{div-le-self}
+use Prim.Native.Nat.{ℕ, _+_, _*_, _/_, _%_, _<_, _≤_}
 use native.Mathlib.Omega.{arith}
-use lib.ListN.{length, getD, length-map}
+use lib.ListN.{length, length-map}
 use lib.Seq.{sets}
-use Rattle.laws.specs.Nearest.{nearest}
 use Rattle.laws.specs.Range.{one-if, sumTo, countTo, joinTo, keepTo}
 use Rattle.laws.specs.Room.{laid}
 use Rattle.laws.proofs.Keep.{length-keep, keep-next, count-next}
 use Rattle.laws.proofs.Ranges.{count-split, length-flat, count-none, keep-none}
 use Rattle.laws.proofs.Writes.{sets-front, flat-sets, map-sets}
-use Rattle.grid.specs.Limits.{unit}
-use Rattle.grid.specs.Grid.{Size, axes, otherEnd, edgeCount, crossed, mark, onFace}
-use Rattle.grid.specs.Point.{apart, offset, number, pointEdges, place, placeFrom}
+use Rattle.grid.specs.Grid.{Size, axes, edgeCount, crossed, mark, onFace}
+use Rattle.grid.specs.Point.{number, pointEdges, place, placeFrom}
 use Rattle.masks.specs.Masks.{maskAbove}
 use Rattle.rows.specs.declared.Sides.{Sides}
 use Rattle.rows.specs.declared.Cuts.{Cuts}
-use Rattle.pointplaces.specs.declared.places.Point.{Point}
+use Rattle.edgepoints.specs.declared.Point.{Point}
 use Rattle.rows.specs.Rows.{sizeOf, nextNumber}
-use Rattle.pointplaces.specs.Places.{PointRooms, coordinates, placedFrom, withPlaced, stepOf, pointBy, pointFrom, pointAt, pointsBelow, countBelow, RoomsFor, Placeable, SamplePlaced, Advanced}
+use Rattle.edgepoints.specs.EdgePoint.{PointRooms, coordinates, placedFrom, withPlaced, pointBy, pointFrom, RoomsFor, Placeable}
+use Rattle.pointplaces.specs.Places.{pointAt, pointsBelow, countBelow, SamplePlaced, Advanced}
 use Rattle.rows.proofs.Cut.{Tested}
 use Rattle.laws.proofs.Lists.{flat-map}
-
--- the offset of samples of sixteen bits is far below what a coordinate's type holds
-pub offset-fits : (v0 v1 grey : ℕ) → v0 < 2 ^ 16 → v1 < 2 ^ 16 → grey < 2 ^ 16 → offset v0 v1 grey < 2 ^ 26
-unfolding offset nearest
-offset-fits v0 v1 grey a b c = omega (arith, div-le-self (2 * (unit * apart grey v0) + apart v1 v0) (2 * apart v1 v0))
-
--- the point that was written, made from the samples that were read, as the definition has it
-pub point-written : (n : Size) (grey : ℕ) (samples : List ℕ) (s axis step number far : ℕ) (p : Point) (before after : PointRooms) → step ≡ stepOf n axis
-    → far ≡ offset (getD samples s 0) (getD samples (s + step) 0) grey → p ≡ pointBy n s axis far → after ≡ placedFrom before number (p ∷ [])
-    → after ≡ placedFrom before number (pointFrom n grey samples s axis ∷ [])
-unfolding pointFrom otherEnd
-point-written n grey samples s axis step number far p before after is read made done = rw (done, made, read, is)
 
 -- rooms that keep their lengths keep their room
 pub record SameLengths (before after : PointRooms) : Type 0 where

@@ -19,7 +19,7 @@ use Rattle.records.specs.declared.Shell.{Shell}
 use Rattle.shellnumbers.specs.Numbering.{Numbering}
 use Rattle.records.specs.Record.{recordOf}
 use Rattle.shellnumbers.specs.Lists.{Outcome, left, shellRoomsFit, refusal, early, Lists, refused, crowded, granted}
-use Rattle.shells.proofs.Few.{no-more-than-points}
+use Rattle.shelllist.proofs.Few.{no-more-than-points}
 use Rattle.writing.specs.Writing.{outcome}
 use Rattle.meshtext.specs.MeshText.{meshText, listsFit, recordsFit, Holds, meshWritten}
 use Rattle.writing.proofs.Fields.{written-read}

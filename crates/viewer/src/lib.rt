@@ -5,7 +5,7 @@ ghost use Rattle.smooth.specs.Promise.{Smooths};
 ghost use Rattle.show.specs.Promise.{Shows};
 ghost use Rattle.curvature.specs.Promise.{left as curvesLeft, Curves, Tells};
 ghost use Rattle.shellnumbers.specs.Lists.{left as shellsLeft};
-ghost use Rattle.shells.specs.Promise.{Shells};
+ghost use Rattle.shelllist.specs.Promise.{Shells};
 ghost use mathlib.Core.List.{[], _∷_};
 use curvature::Reading;
 use records::Shell;

@@ -12,7 +12,7 @@ use Rattle.records.specs.declared.Shell.{Shell}
 use Rattle.shellnumbers.specs.declared.Listed.{Listed}
 use Rattle.records.specs.Grown.{none}
 use Rattle.shellnumbers.specs.Lists.{left}
-use Rattle.shells.specs.Promise.{Shells}
+use Rattle.shelllist.specs.Promise.{Shells}
 use Rattle.listing.specs.Listing.{mostListed, numbersHanded, volumesHanded, Listing}
 use Rattle.walks.proofs.Lent.{sint-elem, big-lit, typed-repeat, spreads, gathers}
 use Rattle.listing.proofs.Handed.{enough, all-handed}

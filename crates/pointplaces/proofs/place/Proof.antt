@@ -5,7 +5,8 @@ use native.Mathlib.Omega.{arith}
 use denote.Ref.{now}
 use Rattle.rows.specs.declared.Sides.{Sides}
 use Rattle.rows.specs.Rows.{firstEdge}
-use Rattle.pointplaces.specs.Places.{PointRooms, pointRooms, RoomsFor, Given, countAll, Advanced}
+use Rattle.edgepoints.specs.EdgePoint.{PointRooms, pointRooms, RoomsFor}
+use Rattle.pointplaces.specs.Places.{Given, countAll, Advanced}
 use Rattle.rows.proofs.Bounds.{first-row, past-last}
 use Rattle.pointplaces.proofs.Placing.{SameLengths, room-kept, advanced-none, advanced-on, none-below, all-placed, room-for-all, places-laid, edges-laid, marks-laid}
 use Rattle.pointplaces.proofs.place.Statement.{statement}

@@ -6,7 +6,7 @@ use Rattle.shells.proofs.Records.{E, R, ty, vals as vals-of, typed, mak
 use Rattle.records.specs.declared.Shell.{Shell}
 use Rattle.shellnumbers.specs.Numbering.{numberOf}
 use Rattle.records.specs.Grown.{none, withPoint}
-use Rattle.shells.specs.Filled.{PointTurn}
+use Rattle.shelllist.specs.Filled.{PointTurn}
 use Rattle.records.proofs.number_at as number-at
 use Rattle.records.proofs.number_at.Symbol as number-at-def
 use Rattle.records.proofs.number_at.Symbol.{name as #number-at}

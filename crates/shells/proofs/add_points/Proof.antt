@@ -6,8 +6,8 @@ use Rattle.shells.proofs.Records.{E, R, typed, Mut}
 use Rattle.records.specs.declared.Shell.{Shell}
 use Rattle.shellnumbers.specs.Numbering.{numberOf}
 use Rattle.records.specs.Grown.{withPoint}
-use Rattle.shells.specs.Filled.{changed, pointsAdded, PointsFit}
-use Rattle.shells.proofs.Growing.{length-points, points-next}
+use Rattle.shelllist.specs.Filled.{changed, pointsAdded, PointsFit}
+use Rattle.shelllist.proofs.Growing.{length-points, points-next}
 use Rattle.shells.proofs.add_points.Code.Mir as mir
 use Rattle.shells.proofs.add_point as add-point
 use Rattle.shells.proofs.add_point.Symbol as add-point-def

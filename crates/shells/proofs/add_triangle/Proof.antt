@@ -8,7 +8,7 @@ use Rattle.mesh.specs.Mesh.{triangleAt}
 use Rattle.shellnumbers.specs.Numbering.{numberOf}
 use Rattle.records.specs.Record.{sixfold}
 use Rattle.records.specs.Grown.{none, withTriangle}
-use Rattle.shells.specs.Filled.{TriangleTurn}
+use Rattle.shelllist.specs.Filled.{TriangleTurn}
 use Rattle.records.proofs.number_of as number-of
 use Rattle.records.proofs.number_of.Symbol as number-of-def
 use Rattle.records.proofs.number_of.Symbol.{name as #number-of}

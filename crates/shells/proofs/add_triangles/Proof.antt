@@ -8,8 +8,8 @@ use Rattle.mesh.specs.Mesh.{triangleCount, triangleAt}
 use Rattle.shellnumbers.specs.Numbering.{numberOf}
 use Rattle.records.specs.Record.{sixfold}
 use Rattle.records.specs.Grown.{withTriangle}
-use Rattle.shells.specs.Filled.{changed, trianglesAdded, TrianglesFit}
-use Rattle.shells.proofs.Growing.{length-triangles, triangles-next}
+use Rattle.shelllist.specs.Filled.{changed, trianglesAdded, TrianglesFit}
+use Rattle.shelllist.proofs.Growing.{length-triangles, triangles-next}
 use Rattle.shells.proofs.add_triangles.Code.Mir as mir
 use Rattle.shells.proofs.add_triangle as add-triangle
 use Rattle.shells.proofs.add_triangle.Symbol as add-triangle-def

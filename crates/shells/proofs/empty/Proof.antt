@@ -5,8 +5,8 @@ use Rattle.walks.proofs.Slices.{Mut as MutOf, ref as refOf, ref-ty, lends, come
 use Rattle.shells.proofs.Records.{E, R, typed, Mut}
 use Rattle.records.specs.declared.Shell.{Shell}
 use Rattle.records.specs.Grown.{none}
-use Rattle.shells.specs.Filled.{emptied}
-use Rattle.shells.proofs.Growing.{length-emptied, emptied-next}
+use Rattle.shelllist.specs.Filled.{emptied}
+use Rattle.shelllist.proofs.Growing.{length-emptied, emptied-next}
 use Rattle.shells.proofs.empty.Code.Mir as mir
 use Rattle.shells.proofs.put_blank as put-blank
 use Rattle.shells.proofs.put_blank.Symbol as put-blank-def

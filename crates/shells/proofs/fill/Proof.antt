@@ -5,8 +5,8 @@ use Rattle.walks.proofs.Slices.{Mut as MutOf, ref as refOf, lends, comes}
 use Rattle.shells.proofs.Records.{E, R, typed, Mut}
 use Rattle.records.specs.declared.Shell.{Shell}
 use Rattle.mesh.specs.Mesh.{triangleCount}
-use Rattle.shells.specs.Filled.{emptied, pointsAdded, trianglesAdded, FillFits}
-use Rattle.shells.proofs.Growing.{length-emptied, length-points, length-triangles}
+use Rattle.shelllist.specs.Filled.{emptied, pointsAdded, trianglesAdded, FillFits}
+use Rattle.shelllist.proofs.Growing.{length-emptied, length-points, length-triangles}
 use Rattle.shells.proofs.empty as empty
 use Rattle.shells.proofs.empty.Symbol as empty-def
 use Rattle.shells.proofs.empty.Symbol.{name as #empty}

@@ -6,9 +6,9 @@ use Rattle.shells.proofs.Records.{E, R, EL, RL, tyL, typed, tells}
 use Rattle.records.specs.declared.Shell.{Shell}
 use Rattle.shellnumbers.specs.declared.Listed.{Listed}
 use Rattle.shellnumbers.specs.Lists.{left, Lists}
-use Rattle.shells.specs.Promise.{Shells}
-use Rattle.shells.specs.Filled.{recordsFilled}
-use Rattle.shells.proofs.Ending.{given, none-given, ends-early, enough, can-fill, ends-granted}
+use Rattle.shelllist.specs.Promise.{Shells}
+use Rattle.shelllist.specs.Filled.{recordsFilled}
+use Rattle.shelllist.proofs.Ending.{given, none-given, ends-early, enough, can-fill, ends-granted}
 use Rattle.shells.proofs.shells.Code.Mir as mir
 use Rattle.shellnumbers.proofs.list_numbers as list-numbers
 use Rattle.shellnumbers.proofs.list_numbers.Symbol as list-numbers-def

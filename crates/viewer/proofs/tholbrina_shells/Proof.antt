@@ -14,11 +14,11 @@ use Rattle.walks.proofs.Slices.{uint-elem, Mut as MutOf, ref as refOf, lends, c
 use Rattle.shells.proofs.Records.{E, R, EL, RL, tyL}
 use Rattle.shellnumbers.proofs.Listed as L
 use Rattle.shellnumbers.proofs.Listed.Laws as L′
-use Rattle.shells.proofs.Few.{few-shells}
+use Rattle.shelllist.proofs.Few.{few-shells}
 use Rattle.records.specs.declared.Shell.{Shell}
 use Rattle.shellnumbers.specs.declared.Listed.{Listed}
 use Rattle.shellnumbers.specs.Lists.{left}
-use Rattle.shells.specs.Promise.{Shells}
+use Rattle.shelllist.specs.Promise.{Shells}
 use Rattle.shells.proofs.shells as called
 use Rattle.shells.proofs.shells.Symbol as called-def
 use Rattle.shells.proofs.shells.Symbol.{name as #called}

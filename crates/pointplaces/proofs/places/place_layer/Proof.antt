@@ -4,7 +4,8 @@ use Prim.Native.Nat.{_+_, _-_, _<_, _≤_}
 use native.Mathlib.Omega.{arith}
 use denote.Ref.{now}
 use Rattle.rows.specs.Rows.{firstEdge}
-use Rattle.pointplaces.specs.Places.{PointRooms, pointRooms, countAll, Advanced}
+use Rattle.edgepoints.specs.EdgePoint.{PointRooms, pointRooms}
+use Rattle.pointplaces.specs.Places.{countAll, Advanced}
 use Rattle.rows.proofs.Bounds.{next-layer}
 use Rattle.pointplaces.proofs.Placing.{SameLengths, room-kept, advanced-none, advanced-on}
 use Rattle.pointplaces.proofs.places.place_layer.Statement.{statement}

@@ -7,7 +7,8 @@ use lib.Count.{trailingZeros}
 use denote.Ref.{now}
 use Rattle.laws.specs.Bits.{halved}
 use Rattle.rows.specs.Rows.{firstEdge}
-use Rattle.pointplaces.specs.Places.{PointRooms, pointRooms, countAll, Advanced}
+use Rattle.edgepoints.specs.EdgePoint.{PointRooms, pointRooms}
+use Rattle.pointplaces.specs.Places.{countAll, Advanced}
 use Rattle.rows.proofs.Bounds.{row-small, samples-few, sample-small, next-row}
 use Rattle.rows.proofs.Cut.{row-passed, Tested, tested}
 use Rattle.rows.proofs.Busy.{Found, found, rest-uncut}

@@ -5,7 +5,7 @@ use native.Mathlib.Omega.{arith}
 use denote.Ref.{now}
 use borrow.Author.Needs.{needs}
 use Rattle.rows.specs.Rows.{sizeOf, nextNumber}
-use Rattle.pointplaces.specs.Places.{PointRooms, pointRooms, Placeable}
+use Rattle.edgepoints.specs.EdgePoint.{PointRooms, pointRooms, Placeable}
 use Rattle.pointplaces.proofs.Placing.{SameLengths, still-placeable, sample-steps}
 use Rattle.pointplaces.proofs.places.place_sample.Statement.{statement}
 use Rattle.pointplaces.proofs.places.place_sample.Tie as tie

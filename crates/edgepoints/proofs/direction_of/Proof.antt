@@ -1,8 +1,8 @@
--- `pointplaces::places::direction_of` meets its contract, axis by axis. Assumes nothing.
+-- `edgepoints::direction_of` meets its contract, axis by axis. Assumes nothing.
 use mathlib.Core.Path.{_≡_}
 use native.Mathlib.Omega.{arith}
-use Rattle.pointplaces.proofs.places.direction_of.Statement.{statement}
-use Rattle.pointplaces.proofs.places.direction_of.Tie as tie
+use Rattle.edgepoints.proofs.direction_of.Statement.{statement}
+use Rattle.edgepoints.proofs.direction_of.Tie as tie
 
 returns : tie.Need-returns
 returns c = rw (c .match .keys1)

@@ -1,12 +1,12 @@
--- `pointplaces::places::write_point` meets its contract: five stores. Assumes nothing.
+-- `edgepoints::write_point` meets its contract: five stores. Assumes nothing.
 use mathlib.Core.List.{flatMap}
 use native.Mathlib.Numerals.{add-one, add-two}
 use native.Mathlib.Omega.{arith}
 use lib.ListN.{length-set}
 use borrow.Author.Needs.{needs}
-use Rattle.pointplaces.specs.Places.{placedFrom}
-use Rattle.pointplaces.proofs.places.write_point.Statement.{statement}
-use Rattle.pointplaces.proofs.places.write_point.Tie as tie
+use Rattle.edgepoints.specs.EdgePoint.{placedFrom}
+use Rattle.edgepoints.proofs.write_point.Statement.{statement}
+use Rattle.edgepoints.proofs.write_point.Tie as tie
 
 mul-first : tie.Need-mul-first
 mul-first c = search needs

@@ -10,7 +10,7 @@ use Rattle.records.specs.declared.Shell.{Shell}
 use Rattle.shellnumbers.specs.Numbering.{Numbering}
 use Rattle.records.specs.Record.{recordOf}
 use Rattle.shellnumbers.specs.Lists.{left, Lists, refused, crowded, granted}
-use Rattle.shells.specs.Promise.{Shells}
+use Rattle.shelllist.specs.Promise.{Shells}
 use Rattle.shellnumbers.proofs.Sound.{passed}
 use Rattle.records.proofs.Lows.{by-lowest, lows-rise}
 

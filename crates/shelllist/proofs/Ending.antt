@@ -11,10 +11,10 @@ use Rattle.mesh.specs.Mesh.{trianglesOf}
 use Rattle.records.specs.declared.Shell.{Shell}
 use Rattle.shellnumbers.specs.Numbering.{Numbering}
 use Rattle.shellnumbers.specs.Lists.{left, Lists, refused, crowded, granted}
-use Rattle.shells.specs.Promise.{recordsAfter, Shells}
-use Rattle.shells.specs.Filled.{recordsFilled, FillFits}
+use Rattle.shelllist.specs.Promise.{recordsAfter, Shells}
+use Rattle.shelllist.specs.Filled.{recordsFilled, FillFits}
 use Rattle.shellnumbers.proofs.Sound.{Passed, passed}
-use Rattle.shells.proofs.Made.{fill-fits, made}
+use Rattle.shelllist.proofs.Made.{fill-fits, made}
 
 -- the answer's number is tested
 pub given : (n : ℕ) → T (not (eqb n 0)) → n ≡ 0 → ⊥

@@ -22,7 +22,7 @@ use Rattle.records.specs.declared.Shell.{Shell}
 use Rattle.shellnumbers.specs.Numbering.{numberOf, Numbering}
 use Rattle.records.specs.Record.{sixfold, pointsUnder, namesUnder, trianglesUnder, recordFrom, recordOf}
 use Rattle.records.specs.Grown.{none, withPoint, withTriangle, PointFits, TriangleFits}
-use Rattle.shells.specs.Filled.{changed, emptied, pointsAdded, trianglesAdded, recordsFilled, PointTurn, TriangleTurn, FillFits}
+use Rattle.shelllist.specs.Filled.{changed, emptied, pointsAdded, trianglesAdded, recordsFilled, PointTurn, TriangleTurn, FillFits}
 use Rattle.mesh.proofs.Passed.{corners}
 use Rattle.shellnumbers.proofs.Sound.{Passed}
 use Rattle.records.proofs.OneNumber.{one-number}

@@ -1,8 +1,8 @@
--- `pointplaces::places::is_outer` meets its contract. Assumes nothing.
+-- `edgepoints::is_outer` meets its contract. Assumes nothing.
 use borrow.Author.Needs.{needs}
 use borrow.Author.Tests.{eq-eqb, ne-eqb}
-use Rattle.pointplaces.proofs.places.is_outer.Statement.{statement}
-use Rattle.pointplaces.proofs.places.is_outer.Tie as tie
+use Rattle.edgepoints.proofs.is_outer.Statement.{statement}
+use Rattle.edgepoints.proofs.is_outer.Tie as tie
 
 cast-outermost : tie.Need-cast-outermost
 cast-outermost c = search needs

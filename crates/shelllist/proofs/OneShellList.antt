@@ -7,7 +7,7 @@ use lib.ListN.{length, replicate}
 use Rattle.mesh.specs.Mesh.{trianglesOf}
 use Rattle.records.specs.declared.Shell.{Shell}
 use Rattle.shellnumbers.specs.Lists.{Outcome, left, Lists, refused, crowded, granted}
-use Rattle.shells.specs.Promise.{recordsAfter, Shells}
+use Rattle.shelllist.specs.Promise.{recordsAfter, Shells}
 use Rattle.shellnumbers.proofs.OneNumbering.{one-numbering}
 
 module _ (points triangles marks : List ℕ) where

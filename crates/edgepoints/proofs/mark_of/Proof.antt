@@ -1,4 +1,4 @@
--- `pointplaces::places::mark_of` meets its contract: the first test that passes, or none of the three. Assumes nothing.
+-- `edgepoints::mark_of` meets its contract: the first test that passes, or none of the three. Assumes nothing.
 use mathlib.Core.Path.{_≡_}
 use mathlib.Core.Bool.{_&&_, _||_}
 use Prim.Native.Nat.{_/_, _%_}
@@ -6,9 +6,9 @@ use lib.Dec.{eqb}
 use borrow.Author.Needs.{needs}
 use Rattle.grid.specs.Grid.{axes, isEnd, someFace, onFaceFrom}
 use Rattle.rows.specs.Rows.{sizeOf}
-use Rattle.pointplaces.proofs.Marks.{some-face}
-use Rattle.pointplaces.proofs.places.mark_of.Statement.{statement}
-use Rattle.pointplaces.proofs.places.mark_of.Tie as tie
+use Rattle.edgepoints.proofs.Marks.{some-face}
+use Rattle.edgepoints.proofs.mark_of.Statement.{statement}
+use Rattle.edgepoints.proofs.mark_of.Tie as tie
 
 faces : (s : tie.Start)
     → someFace (λ axis last. onFaceFrom axes (sizeOf (s .args .sides)) axis last (s .args .at .s) (s .args .d))

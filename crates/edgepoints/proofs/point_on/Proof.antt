@@ -1,15 +1,15 @@
--- `pointplaces::places::point_on` meets its contract: the definition's own arithmetic, which fits. Assumes nothing.
+-- `edgepoints::point_on` meets its contract: the definition's own arithmetic, which fits. Assumes nothing.
 use mathlib.Core.Path.{_≡_}
 use Prim.Native.Nat.{_*_, _/_, _%_, _<_}
 use native.Mathlib.Omega.{arith}
 use borrow.Author.Needs.{needs}
 use Rattle.rows.specs.Rows.{sizeOf}
-use Rattle.pointplaces.specs.Places.{pointBy}
+use Rattle.edgepoints.specs.EdgePoint.{pointBy}
 use Rattle.laws.proofs.Binary.{bit-times}
 use Rattle.rows.proofs.Bounds.{samples-few, sample-small}
-use Rattle.pointplaces.proofs.Marks.{stands}
-use Rattle.pointplaces.proofs.places.point_on.Statement.{statement}
-use Rattle.pointplaces.proofs.places.point_on.Tie as tie
+use Rattle.edgepoints.proofs.Marks.{stands}
+use Rattle.edgepoints.proofs.point_on.Statement.{statement}
+use Rattle.edgepoints.proofs.point_on.Tie as tie
 
 -- the sample's number is small
 few : (c : tie.Start) → c .args .at .s < 64 * 4096

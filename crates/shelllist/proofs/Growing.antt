@@ -9,7 +9,7 @@ use Rattle.records.specs.declared.Shell.{Shell}
 use Rattle.shellnumbers.specs.Numbering.{numberOf}
 use Rattle.records.specs.Record.{sixfold}
 use Rattle.records.specs.Grown.{none, withPoint, withTriangle}
-use Rattle.shells.specs.Filled.{changed, emptied, pointsAdded, trianglesAdded}
+use Rattle.shelllist.specs.Filled.{changed, emptied, pointsAdded, trianglesAdded}
 
 pub length-emptied : (n : ℕ) (ys : List Shell) → length (emptied n ys) ≡ length ys
 length-emptied zero ys = refl

@@ -1,11 +1,11 @@
--- `pointplaces::places::step_of` meets its contract, axis by axis. Assumes nothing.
+-- `edgepoints::step_of` meets its contract, axis by axis. Assumes nothing.
 use mathlib.Core.Path.{_≡_, sym}
 use native.Mathlib.Nat.{mul-le-mul}
 use native.Mathlib.Omega.{arith}
 use Rattle.grid.proofs.Crossings.{step-x, step-y, step-z}
 use Rattle.rows.specs.Rows.{sizeOf}
-use Rattle.pointplaces.proofs.places.step_of.Statement.{statement}
-use Rattle.pointplaces.proofs.places.step_of.Tie as tie
+use Rattle.edgepoints.proofs.step_of.Statement.{statement}
+use Rattle.edgepoints.proofs.step_of.Tie as tie
 
 mul-result : tie.Need-mul-result
 mul-result c =

@@ -1,4 +1,4 @@
--- `pointplaces::places::place_edge` meets its contract. Assumes nothing.
+-- `edgepoints::place_edge` meets its contract. Assumes nothing.
 use mathlib.Core.Path.{_≡_, refl}
 use mathlib.Core.Bool.{true, false}
 use Prim.Native.Nat.{_+_, _<_}
@@ -8,10 +8,10 @@ use lib.ListN.{length, getD}
 use borrow.Author.Needs.{needs}
 use borrow.Author.Tests.{not-true, not-false}
 use Rattle.rows.specs.Rows.{sizeOf}
-use Rattle.pointplaces.specs.Places.{PointRooms, pointRooms, Placeable}
-use Rattle.pointplaces.proofs.Placing.{offset-fits, point-written}
-use Rattle.pointplaces.proofs.places.place_edge.Statement.{statement}
-use Rattle.pointplaces.proofs.places.place_edge.Tie as tie
+use Rattle.edgepoints.specs.EdgePoint.{PointRooms, pointRooms, Placeable}
+use Rattle.edgepoints.proofs.Placed.{offset-fits, point-written}
+use Rattle.edgepoints.proofs.place_edge.Statement.{statement}
+use Rattle.edgepoints.proofs.place_edge.Tie as tie
 
 returns : tie.Need-returns
 returns c =
