@@ -15,7 +15,8 @@ use Rattle.lines.specs.Decimal.{isDigit, decimalTo, decimal, signed}
 use Rattle.reading.specs.Reading.{after, digitsOn, readNumber, endedBy, readField, readRow, ahead, lineThen, readRows}
 use Rattle.lines.specs.Line.{endOf, line, fields, lettered}
 use Rattle.writing.specs.Writing.{refusalText}
-use Rattle.meshtext.specs.MeshText.{pointsText, trianglesText, shellText, shellsText, linesOf, meshText}
+use Rattle.meshlines.specs.MeshLines.{pointsText, trianglesText, shellText, shellsText}
+use Rattle.meshtext.specs.MeshText.{linesOf, meshText}
 use Rattle.gridtext.specs.Grid.{headOf, readHead, smoothingFits, headNumber, refused, granted, withRows, withHead, readGrid}
 use Rattle.gridtext.specs.GridText.{sampleRow, rowsText, headText, gridText}
 use Rattle.gridtext.specs.declared.Head.{Head}

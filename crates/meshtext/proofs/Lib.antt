@@ -1,5 +1,3 @@
--- Lines written one behind the other, the line of a shell, the whole text, and that one outcome is allowed.
-pub mod LinesWritten
-pub mod ShellTexts
+-- The whole text, and that one outcome is allowed.
 pub mod MeshTexts
 pub mod OneMesh

@@ -15,7 +15,8 @@ use Rattle.grid.specs.Limits.{mostPoints, mostTriangles}
 use Rattle.mesh.specs.Check.{lengthsFit}
 use Rattle.lines.specs.Line.{fields, lettered}
 use Rattle.writing.specs.Writing.{outcome, written}
-use Rattle.meshtext.specs.MeshText.{pointsText, trianglesText, shellsText, linesOf, meshText, listsFit, recordsFit, meshWritten}
+use Rattle.meshlines.specs.MeshLines.{pointsText, trianglesText, shellsText}
+use Rattle.meshtext.specs.MeshText.{linesOf, meshText, listsFit, recordsFit, meshWritten}
 use Rattle.writing.proofs.Fields.{lettered-length}
 
 pub lists-fit : (p e m t : ℕ) → listsFit p e m t ≡ true → (p ≡ 3 * m) × (e ≡ m) × (m ≤ mostPoints) × (t / 3 ≤ mostTriangles)

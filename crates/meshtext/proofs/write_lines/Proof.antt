@@ -5,7 +5,7 @@ use native.Mathlib.Omega.{arith}
 use lib.ListN.{length}
 use Rattle.grid.specs.Limits.{mostPoints, mostTriangles}
 use Rattle.lines.specs.Line.{fields}
-use Rattle.meshtext.specs.MeshText.{pointsText, trianglesText, shellsText}
+use Rattle.meshlines.specs.MeshLines.{pointsText, trianglesText, shellsText}
 use Rattle.writing.proofs.Fields.{lettered-length}
 use Rattle.meshtext.proofs.MeshTexts.{lists-fit, records-fit, lines-of-length, lines-of-written}
 use borrow.Author.Needs.{needs}

@@ -1,4 +1,4 @@
--- `meshtext::write_shell` meets its contract: the letter, the four numbers, and the volume. Assumes nothing.
+-- `meshlines::write_shell` meets its contract: the letter, the four numbers, and the volume. Assumes nothing.
 use mathlib.Core.Path.{_≡_, ap, _∙_}
 use mathlib.Core.List.{_++_, _∷_, []}
 use Prim.Native.Nat.{_+_}
@@ -10,9 +10,9 @@ use mir.Val.{toZ, ofZ}
 use mir.Facts.{toZ-ofZ}
 use borrow.Author.Needs.{needs}
 use Rattle.lines.specs.Decimal.{signed}
-use Rattle.meshtext.proofs.ShellTexts.{shell-length, shell-written}
-use Rattle.meshtext.proofs.write_shell.Statement.{statement}
-use Rattle.meshtext.proofs.write_shell.Tie as tie
+use Rattle.meshlines.proofs.ShellTexts.{shell-length, shell-written}
+use Rattle.meshlines.proofs.write_shell.Statement.{statement}
+use Rattle.meshlines.proofs.write_shell.Tie as tie
 
 -- the room stays as long while the letter and the tab are written
 lettered-room : (t : tie.Start) → length (set (set (t .args .room .now) (t .args .at) 83) (t .args .at + 1) 9) ≡ length (t .args .room .now)

@@ -1,4 +1,4 @@
--- `meshtext::shells_length` meets its contract. Assumes nothing.
+-- `meshlines::shells_length` meets its contract. Assumes nothing.
 use mathlib.Core.Path.{_≡_, ap, sym, _∙_}
 use mathlib.Core.List.{List}
 use Prim.Native.Nat.{ℕ, _*_, _-_, _≤_}
@@ -10,11 +10,11 @@ use mir.Facts.{toZ-ofZ}
 use borrow.Author.Needs.{needs}
 use Rattle.lines.specs.Decimal.{signed}
 use Rattle.lines.specs.Line.{fields}
-use Rattle.meshtext.specs.MeshText.{shellNumbers, shellText, shellsText}
-use Rattle.meshtext.proofs.ShellTexts.{shell-long}
-use Rattle.meshtext.proofs.LinesWritten.{linesTo, lines-none, lines-length}
-use Rattle.meshtext.proofs.shells_length.Statement.{statement}
-use Rattle.meshtext.proofs.shells_length.Tie as tie
+use Rattle.meshlines.specs.MeshLines.{shellNumbers, shellText, shellsText}
+use Rattle.meshlines.proofs.ShellTexts.{shell-long}
+use Rattle.meshlines.proofs.LinesWritten.{linesTo, lines-none, lines-length}
+use Rattle.meshlines.proofs.shells_length.Statement.{statement}
+use Rattle.meshlines.proofs.shells_length.Tie as tie
 
 abbrev text : List ℕ → List ℤ → ℕ → List ℕ
 text records volumes i = shellText (shellNumbers records i) (getD volumes i (pos 0))

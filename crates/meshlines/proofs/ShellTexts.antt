@@ -9,7 +9,7 @@ use lib.Seq.{sets}
 use Rattle.laws.proofs.Writes.{sets-append}
 use Rattle.lines.specs.Decimal.{signed}
 use Rattle.lines.specs.Line.{fields}
-use Rattle.meshtext.specs.MeshText.{shellText}
+use Rattle.meshlines.specs.MeshLines.{shellText}
 use Rattle.writing.proofs.Fields.{fields-as-long}
 
 module _ (ns : List ℕ) (v : ℤ) where

@@ -1,15 +1,15 @@
--- `meshtext::points_length` meets its contract. Assumes nothing.
+-- `meshlines::points_length` meets its contract. Assumes nothing.
 use mathlib.Core.Path.{_≡_, ap, sym, _∙_}
 use Prim.Native.Nat.{_*_, _-_, _≤_}
 use native.Mathlib.Omega.{arith}
 use lib.ListN.{length}
 use borrow.Author.Needs.{needs}
 use Rattle.lines.specs.Line.{fields, lettered}
-use Rattle.meshtext.specs.MeshText.{pointNumbers, pointsText}
+use Rattle.meshlines.specs.MeshLines.{pointNumbers, pointsText}
 use Rattle.writing.proofs.Fields.{lettered-length}
-use Rattle.meshtext.proofs.LinesWritten.{linesTo, lines-none, lines-length}
-use Rattle.meshtext.proofs.points_length.Statement.{statement}
-use Rattle.meshtext.proofs.points_length.Tie as tie
+use Rattle.meshlines.proofs.LinesWritten.{linesTo, lines-none, lines-length}
+use Rattle.meshlines.proofs.points_length.Statement.{statement}
+use Rattle.meshlines.proofs.points_length.Tie as tie
 
 abbrev Inv-loop : tie.InvT-loop
 Inv-loop points edges marks v sum₀ i₀ sum i =

@@ -1,15 +1,15 @@
--- `meshtext::triangles_length` meets its contract. Assumes nothing.
+-- `meshlines::triangles_length` meets its contract. Assumes nothing.
 use mathlib.Core.Path.{_≡_, ap, sym, _∙_}
 use Prim.Native.Nat.{_*_, _-_, _≤_}
 use native.Mathlib.Omega.{arith}
 use lib.ListN.{length}
 use borrow.Author.Needs.{needs}
 use Rattle.lines.specs.Line.{fields, lettered}
-use Rattle.meshtext.specs.MeshText.{triangleNumbers, trianglesText}
+use Rattle.meshlines.specs.MeshLines.{triangleNumbers, trianglesText}
 use Rattle.writing.proofs.Fields.{lettered-length}
-use Rattle.meshtext.proofs.LinesWritten.{linesTo, lines-none, lines-length}
-use Rattle.meshtext.proofs.triangles_length.Statement.{statement}
-use Rattle.meshtext.proofs.triangles_length.Tie as tie
+use Rattle.meshlines.proofs.LinesWritten.{linesTo, lines-none, lines-length}
+use Rattle.meshlines.proofs.triangles_length.Statement.{statement}
+use Rattle.meshlines.proofs.triangles_length.Tie as tie
 
 abbrev Inv-loop : tie.InvT-loop
 Inv-loop triangles t sum₀ i₀ sum i =

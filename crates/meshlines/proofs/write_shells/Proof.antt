@@ -1,4 +1,4 @@
--- `meshtext::write_shells` meets its contract. Assumes nothing.
+-- `meshlines::write_shells` meets its contract. Assumes nothing.
 use mathlib.Core.Path.{_≡_, refl, ap, sym, _∙_}
 use mathlib.Core.List.{List}
 use Prim.Native.Nat.{ℕ, _+_, _-_, _≤_}
@@ -10,10 +10,10 @@ use mir.Syntax.{w64}
 use mir.Val.{toZ, ofZ}
 use mir.Facts.{toZ-ofZ}
 use borrow.Author.Needs.{needs}
-use Rattle.meshtext.specs.MeshText.{shellNumbers, shellText, shellsText}
-use Rattle.meshtext.proofs.LinesWritten.{linesTo, lines-none, lines-length, lines-rise, lines-written}
-use Rattle.meshtext.proofs.write_shells.Statement.{statement}
-use Rattle.meshtext.proofs.write_shells.Tie as tie
+use Rattle.meshlines.specs.MeshLines.{shellNumbers, shellText, shellsText}
+use Rattle.meshlines.proofs.LinesWritten.{linesTo, lines-none, lines-length, lines-rise, lines-written}
+use Rattle.meshlines.proofs.write_shells.Statement.{statement}
+use Rattle.meshlines.proofs.write_shells.Tie as tie
 
 abbrev text : List ℕ → List ℤ → ℕ → List ℕ
 text records volumes i = shellText (shellNumbers records i) (getD volumes i (pos 0))

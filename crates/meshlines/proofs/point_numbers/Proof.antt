@@ -1,8 +1,8 @@
--- `meshtext::point_numbers` meets its contract. Assumes nothing.
+-- `meshlines::point_numbers` meets its contract. Assumes nothing.
 use native.Mathlib.Omega.{arith}
 use borrow.Author.Needs.{needs}
-use Rattle.meshtext.proofs.point_numbers.Statement.{statement}
-use Rattle.meshtext.proofs.point_numbers.Tie as tie
+use Rattle.meshlines.proofs.point_numbers.Statement.{statement}
+use Rattle.meshlines.proofs.point_numbers.Tie as tie
 
 mul-at : tie.Need-mul-at
 mul-at c = search needs

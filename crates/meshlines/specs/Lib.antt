@@ -1,0 +1,2 @@
+-- The lines of a mesh's points, triangles and shells.
+pub mod MeshLines
