@@ -15,7 +15,7 @@ use Rattle.laws.specs.Mesh.{sides, sameArrow, flat}
 use Rattle.cube.specs.Cube.{caseOf, isAbove}
 use Rattle.cube.specs.Face.{cuts, wayRound, faceSegments, segmentsOf}
 use Rattle.cube.specs.Loop.{loops, fan}
-use Rattle.cube.specs.Answer.{segments, centreTriangles as caseTriangles}
+use Rattle.cube.specs.Answer.{segments, triangles as caseTriangles}
 use Rattle.grid.specs.Grid.{site, coordinate, side, isAboveGrey, otherEnd, fitsAlong, isThere, isOutermost, someFace, crossedFrom, crossed, onFaceFrom, onFace, mark}
 use Rattle.grid.specs.Point.{pointEdges, number, offset, placeFrom, place}
 use Rattle.grid.specs.Mesh.{cornerSite, gridEdge, caseAt, cubeTriangles, edgeMesh, mesh}

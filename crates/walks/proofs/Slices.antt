@@ -118,29 +118,8 @@ module _ (E : Elem) where
   abbrev pub Part : Share → List X → ℕ → ℕ → Fml
   Part q l b o = arr-parts (shares (E .R)) (length l) .part q l b o
 
+-- ---- a row of elements lent for a call, and back: as a `&mut [E]`, and as a `&[E]`
 module _ {M : Type 1} {𝓤 : URA M} {H : Heap 𝓤} {A : Atoms 𝓤} {K : Type 0} {W : Given 𝓤 H A} {Γ : List (Item 𝓤)} {G : Goal 𝓤 H} where
-  pub opens-at : K → (E : Elem) → Soaks G → {κ : Lft} {q : Share} {γ : GName} {m : ℕ} (ys : List (E .R .Denot)) (n b o : ℕ) → n < length ys
-      → (Is (E .R) (getD ys n (E .none)) (vals E (getD ys n (E .none)))
-      → Seq K W (‵ (Cell E fullShare (getD ys n (E .none)) b o n) ∷ ‵ (E .R .own (getD ys n (E .none)) (vals E (getD ys n (E .none)))) ∷ ‵ (others (shares (E .R)) fullShare ys n b o)
-      ∷ ‵ (fobor κ q (Held (E .R) (length ys) b o γ)) ∷ ‵ (Obs E γ ys) ∷ ‵ (Auth E γ ys) ∷ Γ) G)
-      → Seq K W (‵ (Mut E κ γ b o m ys) ∷ ‵ (flft κ q) ∷ Γ) G
-  opens-at t E z ys n b o l k = fsplit t $ drop t $ fsplit t $ opens-slice t z (E .R) ys b o $ elem-out t (E .R) (Is (E .R)) (shows 𝓤 H A (E .R)) (vals E) (E .tells) fullShare ys n (E .none) b o l k
-
-  pub backs-at : K → (E : Elem) → Soaks G → {κ : Lft} {q : Share} {γ : GName} (m : ℕ) (ys : List (E .R .Denot)) (n b o : ℕ) → n < length ys → length ys ≡ m → Room (E .R) m
-      → Step K W (‵ (Mut E κ γ b o m ys) ∷ ‵ (flft κ q) ∷ Γ) G
-      (‵ (Cell E fullShare (getD ys n (E .none)) b o n) ∷ ‵ (E .R .own (getD ys n (E .none)) (vals E (getD ys n (E .none)))) ∷ ‵ (others (shares (E .R)) fullShare ys n b o)
-      ∷ ‵ (fobor κ q (Held (E .R) (length ys) b o γ)) ∷ ‵ (Obs E γ ys) ∷ ‵ (Auth E γ ys) ∷ Γ) G
-  backs-at t E z {κ} {q} {γ} m ys n b o l e room = step (λ s. elem-back t (E .R) fullShare ys n (E .none) (vals E (getD ys n (E .none))) b o l $ closes-slice t z (E .R) ys ys refl b o $ fjoin t $
-      pureI t (at-slice (E .R) (ref E b o γ ys) (sliceVal (b, o) m ∷ [])) (tt, (tt, tt)) (ap (λ (k : ℕ). sliceVal (b, o) k ∷ []) (sym e), subst (Room (E .R)) (sym e) room) $ fjoin t $ s)
-
-  pub puts-at : K → (E : Elem) → Soaks G → {κ : Lft} {q : Share} {γ : GName} (m : ℕ) (ys : List (E .R .Denot)) (n b o : ℕ) → n < length ys → length ys ≡ m → Room (E .R) m → (h : E .R .Denot) → Is (E .R) h (vals E h) → {old : Fml}
-      → Step K W (‵ (Mut E κ γ b o m (set ys n h)) ∷ ‵ (flft κ q) ∷ Γ) G
-      (‵ (Cell E fullShare h b o n) ∷ ‵ old ∷ ‵ (others (shares (E .R)) fullShare ys n b o) ∷ ‵ (fobor κ q (Held (E .R) (length ys) b o γ)) ∷ ‵ (Obs E γ ys) ∷ ‵ (Auth E γ ys) ∷ Γ) G
-  puts-at t E z {κ} {q} {γ} m ys n b o l e room h is = step (λ s. move t (1 ∷ []) $ drop t $ owned t (E .R) (Is (E .R)) (E .makes 𝓤 H A W) h (vals E h) is $ move t (1 ∷ 0 ∷ []) $
-      elem-put t (E .R) fullShare ys n h (vals E h) b o l $ closes-slice t z (E .R) ys (set ys n h) (length-set ys n h) b o $ fjoin t $
-      pureI t (at-slice (E .R) (ref E b o γ (set ys n h)) (sliceVal (b, o) m ∷ [])) (tt, (tt, tt)) (ap (λ (k : ℕ). sliceVal (b, o) k ∷ []) (sym (length-set ys n h ∙ e)), subst (Room (E .R)) (sym (length-set ys n h ∙ e)) room) $ fjoin t $ s)
-
-  -- ---- a row of elements lent for a call, and back: as a `&mut [E]`, and as a `&[E]`
   pub lends-row : K → (E : Elem) → Soaks G → (m : ℕ) (ys : List (E .R .Denot)) (b o : ℕ) → length ys ≡ m → Room (E .R) m
       → ((ν : ℕ) (δ : GName) → Seq K W (‵ (flft (ν ∷ []) fullShare) ∷ ‵ (Mut E (ν ∷ []) δ b o m ys) ∷ ‵ (flent (ν ∷ []) (Held (E .R) (length ys) b o δ)) ∷ Γ) G)
       → Seq K W (‵ (row (E .R) fullShare ys b o) ∷ Γ) G
@@ -163,6 +142,28 @@ module _ {M : Type 1} {𝓤 : URA M} {H : Heap 𝓤} {A : Atoms 𝓤} {K : Type 
   pub row-same : K → (E : Elem) → Soaks G → {ν : ℕ} (ys : List (E .R .Denot)) (b o : ℕ)
       → Step K W (‵ (row (E .R) fullShare ys b o) ∷ Γ) G (‵ (flft (ν ∷ []) fullShare) ∷ ‵ (flent (ν ∷ []) (Part E fullShare ys b o)) ∷ Γ) G
   row-same t E z ys b o = step (λ s. lft-end t z $ lent-back t z $ fsplit t $ drop t $ s)
+
+module _ {M : Type 1} {𝓤 : URA M} {H : Heap 𝓤} {A : Atoms 𝓤} {K : Type 0} {W : Given 𝓤 H A} {Γ : List (Item 𝓤)} {G : Goal 𝓤 H} where
+  pub opens-at : K → (E : Elem) → Soaks G → {κ : Lft} {q : Share} {γ : GName} {m : ℕ} (ys : List (E .R .Denot)) (n b o : ℕ) → n < length ys
+      → (Is (E .R) (getD ys n (E .none)) (vals E (getD ys n (E .none)))
+      → Seq K W (‵ (Cell E fullShare (getD ys n (E .none)) b o n) ∷ ‵ (E .R .own (getD ys n (E .none)) (vals E (getD ys n (E .none)))) ∷ ‵ (others (shares (E .R)) fullShare ys n b o)
+      ∷ ‵ (fobor κ q (Held (E .R) (length ys) b o γ)) ∷ ‵ (Obs E γ ys) ∷ ‵ (Auth E γ ys) ∷ Γ) G)
+      → Seq K W (‵ (Mut E κ γ b o m ys) ∷ ‵ (flft κ q) ∷ Γ) G
+  opens-at t E z ys n b o l k = fsplit t $ drop t $ fsplit t $ opens-slice t z (E .R) ys b o $ elem-out t (E .R) (Is (E .R)) (shows 𝓤 H A (E .R)) (vals E) (E .tells) fullShare ys n (E .none) b o l k
+
+  pub backs-at : K → (E : Elem) → Soaks G → {κ : Lft} {q : Share} {γ : GName} (m : ℕ) (ys : List (E .R .Denot)) (n b o : ℕ) → n < length ys → length ys ≡ m → Room (E .R) m
+      → Step K W (‵ (Mut E κ γ b o m ys) ∷ ‵ (flft κ q) ∷ Γ) G
+      (‵ (Cell E fullShare (getD ys n (E .none)) b o n) ∷ ‵ (E .R .own (getD ys n (E .none)) (vals E (getD ys n (E .none)))) ∷ ‵ (others (shares (E .R)) fullShare ys n b o)
+      ∷ ‵ (fobor κ q (Held (E .R) (length ys) b o γ)) ∷ ‵ (Obs E γ ys) ∷ ‵ (Auth E γ ys) ∷ Γ) G
+  backs-at t E z {κ} {q} {γ} m ys n b o l e room = step (λ s. elem-back t (E .R) fullShare ys n (E .none) (vals E (getD ys n (E .none))) b o l $ closes-slice t z (E .R) ys ys refl b o $ fjoin t $
+      pureI t (at-slice (E .R) (ref E b o γ ys) (sliceVal (b, o) m ∷ [])) (tt, (tt, tt)) (ap (λ (k : ℕ). sliceVal (b, o) k ∷ []) (sym e), subst (Room (E .R)) (sym e) room) $ fjoin t $ s)
+
+  pub puts-at : K → (E : Elem) → Soaks G → {κ : Lft} {q : Share} {γ : GName} (m : ℕ) (ys : List (E .R .Denot)) (n b o : ℕ) → n < length ys → length ys ≡ m → Room (E .R) m → (h : E .R .Denot) → Is (E .R) h (vals E h) → {old : Fml}
+      → Step K W (‵ (Mut E κ γ b o m (set ys n h)) ∷ ‵ (flft κ q) ∷ Γ) G
+      (‵ (Cell E fullShare h b o n) ∷ ‵ old ∷ ‵ (others (shares (E .R)) fullShare ys n b o) ∷ ‵ (fobor κ q (Held (E .R) (length ys) b o γ)) ∷ ‵ (Obs E γ ys) ∷ ‵ (Auth E γ ys) ∷ Γ) G
+  puts-at t E z {κ} {q} {γ} m ys n b o l e room h is = step (λ s. move t (1 ∷ []) $ drop t $ owned t (E .R) (Is (E .R)) (E .makes 𝓤 H A W) h (vals E h) is $ move t (1 ∷ 0 ∷ []) $
+      elem-put t (E .R) fullShare ys n h (vals E h) b o l $ closes-slice t z (E .R) ys (set ys n h) (length-set ys n h) b o $ fjoin t $
+      pureI t (at-slice (E .R) (ref E b o γ (set ys n h)) (sliceVal (b, o) m ∷ [])) (tt, (tt, tt)) (ap (λ (k : ℕ). sliceVal (b, o) k ∷ []) (sym (length-set ys n h ∙ e)), subst (Room (E .R)) (sym (length-set ys n h ∙ e)) room) $ fjoin t $ s)
 
   -- ---- lent again for a call
   pub lends : K → (E : Elem) → Soaks G → {κ : Lft} {q : Share} {γ : GName} (m : ℕ) (ys : List (E .R .Denot)) (b o : ℕ) → length ys ≡ m → Room (E .R) m
