@@ -1,4 +1,5 @@
--- Walks by hand over lent slices of structs: the names they use, a `&mut [E]`, and a `&[E]` or a local array that is lent.
+-- Walks by hand over lent slices of structs: the names they use, a loop that counts, a `&mut [E]`, and a `&[E]` or a local array that is lent.
 pub mod Walk
+pub mod Counting
 pub mod Slices
 pub mod Lent

@@ -1,10 +1,11 @@
 -- `listing::hand_on` meets its contract: a walk of its MIR, by hand, with a loop. Each turn lends `hand` both rooms, and has them back with one more record handed on.
 -- Assumes nothing.
-use Rattle.walks.proofs.Walk.{_≡_, refl, _∙_, ap, ℕ, _+_, _-_, _<_, _≤_, _^_, zero-le, arith, le-antisymm, WellFounded, InvImage·wf, Nat·lt-wfRel, List, [], _∷_, length, set, getD, Holds, ltb, ltb→lt, nltb→le, lit<, URA, fullShare, named, erased, imm, mut, w32, w64, tyInt, tyBool, tyUnit, tyRef, Val, vunit, vint, SProp, ent, id⊢, Lft, Share, GName, Fml, ftrue, fat, froom, fdies, flft, Memory, Routine, Heap, Env, Out, Calls, Loops, WpFn, Tables, Wp, afterSeq, afterBlock, atReturn, afterTurn, Atoms, Fun, fact, givenOf, tables, tablesOf, Given, Item, ‵, raw, _⊛_, ⋆, some, later, runs, Sq, anyQ, atRet, _$_, _∵_, !, qed, by, move, keep, drop, use1, use2, split, join, pick, rewrite, fsplit, fjoin, feqL, feqI, suffices, frame, await, done, look, init, store, forget, stop, hop, fld, from, load, lit, unit-lit, of-opd, bin, addr, and-then, no-more, assigns, assigns-last, land, first, skips, jumps, blocks, branches, exec, Below, again, loops, returns, enter, alloc1, alloc0, params1, pass1, pass0, free1, free0, agg, whole, sub, look-in, FmC, fmOf, WpFn-mono, owns, Is, shows, uint-makes, uint-vals, uint-tells, nothing-lawful, u32, usize, unit, RefT, sliceTy, sliceVal, MutSlice, ShrSlice, Room, slice-vals, mut-slice-tells, shr-slice-tells, shr-slice-copy, owned, peeks, heard, nothing, onEntry, Meets, tripleOf, Contract, Triple, calls-at, ensured, lasts, entered, cited, says, needs, Stays, stay-none, stay-slice, stay-none-slice, walkOf, goes-none, goes-slice, goes-none-slice, Walks, ends-at, walked, walk-meets, yes, plain, after}
+use Rattle.walks.proofs.Walk.{_≡_, refl, _∙_, ap, ℕ, _+_, _-_, _<_, _≤_, _^_, zero-le, arith, le-antisymm, List, [], _∷_, length, set, getD, ltb→lt, nltb→le, lit<, URA, fullShare, named, erased, imm, mut, w32, w64, tyInt, tyBool, tyUnit, tyRef, Val, vunit, vint, SProp, ent, id⊢, Lft, Share, GName, Fml, ftrue, fat, froom, fdies, flft, Memory, Routine, Heap, Env, Out, Calls, Loops, WpFn, Tables, Wp, afterSeq, afterBlock, atReturn, afterTurn, Atoms, Fun, fact, givenOf, tables, tablesOf, Given, Item, ‵, raw, _⊛_, ⋆, some, later, runs, Sq, anyQ, atRet, _$_, _∵_, !, qed, by, move, keep, drop, use1, use2, split, join, pick, rewrite, fsplit, fjoin, feqL, feqI, suffices, frame, await, done, look, init, store, forget, stop, hop, fld, from, load, lit, unit-lit, of-opd, bin, addr, and-then, no-more, assigns, assigns-last, land, first, skips, jumps, blocks, branches, exec, Below, again, loops, returns, enter, alloc1, alloc0, params1, pass1, pass0, free1, free0, agg, whole, sub, look-in, FmC, fmOf, WpFn-mono, owns, Is, shows, uint-makes, uint-vals, uint-tells, nothing-lawful, u32, usize, unit, RefT, sliceTy, sliceVal, MutSlice, ShrSlice, Room, slice-vals, mut-slice-tells, shr-slice-tells, shr-slice-copy, owned, peeks, heard, nothing, onEntry, Meets, tripleOf, Contract, Triple, calls-at, ensured, lasts, entered, cited, says, needs, Stays, stay-none, stay-slice, stay-none-slice, walkOf, goes-none, goes-slice, goes-none-slice, Walks, ends-at, walked, walk-meets, yes, plain, after}
 use Prim.Native.Nat.{_*_}
 use lib.IntN.{ℤ}
 use lib.Seq.{sets}
 use denote.Builtin.{i64}
+use Rattle.walks.proofs.Counting.{Upto, Nearer, Nearer-wf, next}
 use Rattle.walks.proofs.Slices.{uint-elem, Mut as MutOf, ref as refOf, lends, comes}
 use Rattle.shells.proofs.Records.{R}
 use Rattle.records.specs.declared.Shell.{Shell}
@@ -83,16 +84,6 @@ module _ {M : Type 1} (𝓤 : URA M) (H : Heap 𝓤) (A : Atoms 𝓤) (W : Given
       suffices ! _ (ends-at 𝓤 H A f.ended stayed (f.clauses 𝓤 H A mem run) W (((κ0, (κ1, (κ2, tt))), (q0, (q1, (q2, tt))), tt, a, vals), tt) vunit tt (tt, (tt, (z-records, (z-volumes, tt)))) (tt, (tt, (l-records, (l-volumes, tt))))) $ says ! (e-records, e-volumes) $
       nothing ! $ move ! (6 ∷ 0 ∷ []) $ join ! $ move ! (5 ∷ 0 ∷ []) $ join ! $ move ! (4 ∷ 0 ∷ []) $ join ! $ frame ! $ nothing ! $ move ! (3 ∷ 0 ∷ []) $ fjoin ! $ move ! (2 ∷ 0 ∷ []) $ fjoin ! $ owned ! usize (Is usize) (uint-makes 𝓤 H A W w64) count _ (refl, count-fits) $ fjoin ! $ move ! (1 ∷ 0 ∷ []) $ fjoin ! $ feqI ! (List Val) (vunit ∷ []) (vunit ∷ []) refl $ move ! (1 ∷ 0 ∷ []) $ done !
 
-  -- ---- the variant: how many turns are done, at most `count`
-  abbrev Upto : Type 0
-  Upto = (j : ℕ) × (j ≤ count)
-
-  abbrev Nearer : Upto → Upto → Type 0
-  Nearer j i = count - j .0 < count - i .0
-
-  Nearer-wf : WellFounded Nearer
-  Nearer-wf = InvImage·wf (λ (i : Upto). count - i .0) (Nat·lt-wfRel .wf)
-
   -- ---- the call: what its triple binds outside, and that the caller has what it asks
   module _ (j : ℕ) (ν₀ : ℕ) (δ₀ : GName) (ν₁ : ℕ) (δ₁ : GName) where
     abbrev args : RefT (List Shell) × (ℕ × (RefT (List ℕ) × (RefT (List ℤ) × Unit {0})))
@@ -128,14 +119,14 @@ module _ {M : Type 1} (𝓤 : URA M) (H : Heap 𝓤) (A : Atoms 𝓤) (W : Given
     En = (tyUnit, l₀) ∷ (sliceTy (tyRef (named 0) imm (pointee (R .written))), l₁) ∷ (tyInt w64, l₂) ∷ (sliceTy (tyRef (named 1) mut (tyInt w32)), l₃) ∷ (sliceTy (tyRef (named 2) mut (tyInt w64)), l₄) ∷ (tyInt w64, l₅) ∷ (tyBool, l₆) ∷ (tyUnit, l₇) ∷ (tyRef erased mut (tyInt w32), l₈) ∷ (sliceTy (tyRef erased mut (tyInt w32)), l₉) ∷ (tyRef erased mut (tyInt w64), l₁₀) ∷ (sliceTy (tyRef erased mut (tyInt w64)), l₁₁) ∷ []
 
     -- the invariant: j records are handed on
-    abbrev At : Upto → List (Item 𝓤)
+    abbrev At : Upto count → List (Item 𝓤)
     At j = ‵ O-ys ∷ ‵ (MutOf (uint-elem w32) κ1 γ-records b-records o-records (length records) (numbers (j .0))) ∷ ‵ (MutOf (sint-elem w64) κ2 γ-volumes b-volumes o-volumes (length volumes) (vols (j .0))) ∷ ‵ (flft κ0 q0) ∷ ‵ (flft κ1 q1) ∷ ‵ (flft κ2 q2) ∷ ‵ (froom (sliceTy (tyRef erased mut (tyInt w64))) l₁₁ 0) ∷ ‵ (fdies (sliceTy (tyRef erased mut (tyInt w64))) l₁₁) ∷ ‵ (froom (tyRef erased mut (tyInt w64)) l₁₀ 0) ∷ ‵ (fdies (tyRef erased mut (tyInt w64)) l₁₀) ∷ ‵ (froom (sliceTy (tyRef erased mut (tyInt w32))) l₉ 0) ∷ ‵ (fdies (sliceTy (tyRef erased mut (tyInt w32))) l₉) ∷ ‵ (froom (tyRef erased mut (tyInt w32)) l₈ 0) ∷ ‵ (fdies (tyRef erased mut (tyInt w32)) l₈) ∷ ‵ (froom (tyUnit) l₇ 0) ∷ ‵ (fdies (tyUnit) l₇) ∷ ‵ (froom (tyBool) l₆ 0) ∷ ‵ (fdies (tyBool) l₆) ∷ ‵ (fat fullShare (tyInt w64) l₅ 0 (vint w64 (j .0))) ∷ ‵ (fdies (tyInt w64) l₅) ∷ ‵ (fat fullShare (sliceTy (tyRef (named 2) mut (tyInt w64))) l₄ 0 v-volumes) ∷ ‵ (fdies (sliceTy (tyRef (named 2) mut (tyInt w64))) l₄) ∷ ‵ (fat fullShare (sliceTy (tyRef (named 1) mut (tyInt w32))) l₃ 0 v-records) ∷ ‵ (fdies (sliceTy (tyRef (named 1) mut (tyInt w32))) l₃) ∷ ‵ (fat fullShare (tyInt w64) l₂ 0 (vint w64 count)) ∷ ‵ (fdies (tyInt w64) l₂) ∷ ‵ (fat fullShare (sliceTy (tyRef (named 0) imm (pointee (R .written)))) l₁ 0 v-ys) ∷ ‵ (fdies (sliceTy (tyRef (named 0) imm (pointee (R .written)))) l₁) ∷ ‵ (froom (tyUnit) l₀ 0) ∷ ‵ (fdies (tyUnit) l₀) ∷ []
 
     -- a turn's postcondition: it ends nearer to `count`, or the loop is left and the rest of the body runs
-    abbrev Turned : Upto → Out → SProp 𝓤
-    Turned j = afterTurn 𝓤 H (Below 𝓤 H A Nearer At j) (afterBlock 𝓤 H (afterSeq 𝓤 H (Wp 𝓤 H C Λ En mir.t-3 (atReturn 𝓤 H En Post)) (atReturn 𝓤 H En Post)))
+    abbrev Turned : Upto count → Out → SProp 𝓤
+    Turned j = afterTurn 𝓤 H (Below 𝓤 H A (Nearer count) At j) (afterBlock 𝓤 H (afterSeq 𝓤 H (Wp 𝓤 H C Λ En mir.t-3 (atReturn 𝓤 H En Post)) (atReturn 𝓤 H En Post)))
 
-    turns : (j : Upto) → Sq W (At j) (runs C Λ En mir.turn-1 (anyQ (Turned j)))
+    turns : (j : Upto count) → Sq W (At j) (runs C Λ En mir.turn-1 (anyQ (Turned j)))
     unfolding afterTurn
     turns j =
         assigns ! (bin ! (load ! (from ! (stop !)) (look ! 18 refl)) (load ! (from ! (stop !)) (look ! 24 refl)) tt) (from ! (stop !)) (init ! 16 refl (tt, tt)) $
@@ -160,8 +151,8 @@ module _ {M : Type 1} (𝓤 : URA M) (H : Heap 𝓤) (A : Atoms 𝓤) (W : Given
         -- [ys; records; volumes; tok0; tok1; tok2; _11; _10; _9; _8; _7; _6; _5; _4; _3; _2; _1; _0]
         rewrite ! 1 (λ (us : List ℕ). ‵ (MutOf (uint-elem w32) κ1 γ-records b-records o-records (length records) us)) (e .0 ∙ numbers-more (j .0) shell records (omega (arith, ltb→lt (j .0) count less, pre .1))) refl $
         rewrite ! 2 (λ (us : List ℤ). ‵ (MutOf (sint-elem w64) κ2 γ-volumes b-volumes o-volumes (length volumes) us)) (e .1 ∙ volumes-more (j .0) shell volumes (omega (arith, ltb→lt (j .0) count less, pre .2))) refl $
-        assigns-last ! (bin ! (load ! (from ! (stop !)) (look ! 18 refl)) (lit ! tt) (record { fits = fits (j .0 + 1) (next less .1) })) (from ! (stop !)) (store ! 18 refl (tt, record { fits = fits (j .0 + 1) (next less .1) })) $
-        forget ! 6 refl $ forget ! 8 refl $ forget ! 10 refl $ forget ! 12 refl $ forget ! 14 refl $ forget ! 16 refl $ again ! Nearer At j (next less) (omega (arith, ltb→lt (j .0) count less))))))))))))
+        assigns-last ! (bin ! (load ! (from ! (stop !)) (look ! 18 refl)) (lit ! tt) (record { fits = fits (j .0 + 1) (next count j less .1) })) (from ! (stop !)) (store ! 18 refl (tt, record { fits = fits (j .0 + 1) (next count j less .1) })) $
+        forget ! 6 refl $ forget ! 8 refl $ forget ! 10 refl $ forget ! 12 refl $ forget ! 14 refl $ forget ! 16 refl $ again ! (Nearer count) At j (next count j less) (omega (arith, ltb→lt (j .0) count less))))))))))))
         (λ over. jumps ! $ exec ! C Λ En mir.t-3 (atRet En Post) $
         assigns ! (of-opd ! (unit-lit !)) (from ! (stop !)) (init ! 28 refl (tt, tt)) $
         returns ! (look ! 28 refl) $ forget ! 28 refl $ forget ! 26 refl $ forget ! 24 refl $ forget ! 22 refl $ forget ! 20 refl $ forget ! 18 refl $ forget ! 16 refl $
@@ -169,9 +160,6 @@ module _ {M : Type 1} (𝓤 : URA M) (H : Heap 𝓤) (A : Atoms 𝓤) (W : Given
       where
         fits : (i : ℕ) → i ≤ count → i < 2 ^ 64
         fits i l = omega (arith, l, count-fits)
-
-        next : Holds (ltb (j .0) count) → Upto
-        next less = (j .0 + 1, omega (arith, ltb→lt (j .0) count less))
 
   walk : (𝓣 : Tables 𝓤 H) → Triple 𝓤 (𝓣 .C #hand) (Hand 𝓤 H A mem run) → ent 𝓤 (onEntry 𝓤 H A f.signature (κ0, (κ1, (κ2, tt))) (q0, (q1, (q2, tt))) a vals) (WpFn 𝓤 H (𝓣 .C) (𝓣 .Λ) code.function (v-ys ∷ vint w64 count ∷ v-records ∷ v-volumes ∷ []) Post)
   walk 𝓣 known-hand =
@@ -182,7 +170,7 @@ module _ {M : Type 1} (𝓤 : URA M) (H : Heap 𝓤) (A : Atoms 𝓤) (W : Given
       -- [ys; records; volumes; tok0; tok1; tok2; _11; _10; _9; _8; _7; _6; _5; _4; _3; _2; _1; _0]
       assigns ! (of-opd ! (lit ! tt)) (from ! (stop !)) (init ! 18 refl (tt, record { fits = lit< tt })) $
       rewrite ! 1 (λ (us : List ℕ). ‵ (MutOf (uint-elem w32) κ1 γ-records b-records o-records (length records) us)) (numbers-none shell records) refl $ rewrite ! 2 (λ (us : List ℤ). ‵ (MutOf (sint-elem w64) κ2 γ-volumes b-volumes o-volumes (length volumes) us)) (volumes-none shell volumes) refl $
-      first ! $ blocks ! $ loops ! 𝓣 Nearer Nearer-wf (At 𝓣 known-hand l₀ l₁ l₂ l₃ l₄ l₅ l₆ l₇ l₈ l₉ l₁₀ l₁₁) (turns 𝓣 known-hand l₀ l₁ l₂ l₃ l₄ l₅ l₆ l₇ l₈ l₉ l₁₀ l₁₁) (0, zero-le)))))))))))))
+      first ! $ blocks ! $ loops ! 𝓣 (Nearer count) (Nearer-wf count) (At 𝓣 known-hand l₀ l₁ l₂ l₃ l₄ l₅ l₆ l₇ l₈ l₉ l₁₀ l₁₁) (turns 𝓣 known-hand l₀ l₁ l₂ l₃ l₄ l₅ l₆ l₇ l₈ l₉ l₁₀ l₁₁) (0, zero-le)))))))))))))
 
 module _ {M : Type 1} (𝓤 : URA M) (H : Heap 𝓤) (A : Atoms 𝓤) (W : Given 𝓤 H A) (mem : Memory → SProp 𝓤) (run : Routine → Fun 𝓤) where
   walks : (𝓣 : Tables 𝓤 H) → Triple 𝓤 (𝓣 .C #hand) (Hand 𝓤 H A mem run) → Walks 𝓤 H A f.ended stayed (WpFn 𝓤 H (𝓣 .C) (𝓣 .Λ) code.function) (f.clauses 𝓤 H A mem run)
