@@ -1,5 +1,9 @@
 //! The tool as a listener has it: sentences, errors and files.
 
+#[path = "../../viewer/tests/tools/castings.rs"]
+mod castings;
+
+use castings::{ellipsoid, lattice, SIDE};
 use std::io::{empty, Read};
 
 fn run_on(words: &[&str], input: &mut dyn Read) -> Result<String, String> {
@@ -175,32 +179,11 @@ fn sizes_and_files_that_do_not_fit() {
 
 /// Metal of 64 samples a side with so many voids, apart from each other and from the outer faces.
 fn casting(voids: usize) -> Vec<u16> {
-    let per_side = (1..).find(|n| n * n * n >= voids).unwrap();
-    let apart = 62.0 / per_side as f64;
-    let mut samples = vec![1000u16; 64 * 64 * 64];
-    for void in 0..voids {
-        let cell = [
-            void % per_side,
-            void / per_side % per_side,
-            void / (per_side * per_side),
-        ];
-        let middle = cell.map(|c| 1.0 + apart * (c as f64 + 0.5));
-        let half = [0.36, 0.30, 0.33].map(|share| (share * apart).max(1.0));
-        let [xs, ys, zs] = [0, 1, 2].map(|axis| {
-            let (low, high) = (middle[axis] - half[axis], middle[axis] + half[axis]);
-            low as usize..=high as usize
-        });
-        for (z, y) in zs.flat_map(|z| ys.clone().map(move |y| (z, y))) {
-            for x in xs.clone() {
-                let place = [x, y, z];
-                let distance: f64 = (0..3)
-                    .map(|axis| ((place[axis] as f64 - middle[axis]) / half[axis]).powi(2))
-                    .sum();
-                if distance < 1.0 {
-                    samples[x + 64 * (y + 64 * z)] = 100;
-                }
-            }
-        }
+    let mut samples = vec![1000u16; SIDE * SIDE * SIDE];
+    let (length, middles) = lattice(voids, 1.0);
+    let half = [0.36, 0.30, 0.33].map(|share| (share * length).max(1.0));
+    for s in middles.flat_map(|middle| ellipsoid(middle, half)) {
+        samples[s] = 100;
     }
     samples
 }

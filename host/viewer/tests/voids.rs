@@ -1,41 +1,23 @@
 //! Castings with a known number of voids: the list, raw and smoothed, against the number that was cast and against a flood fill over the samples.
 
+#[path = "tools/castings.rs"]
+mod castings;
 mod tools;
 
+use castings::{ellipsoid, lattice, SIDE};
 use tools::Seed;
 use viewer::Surface;
 
-const SIDE: usize = 64;
 const GREY: u16 = 500;
 
 /// Metal with so many ellipsoids taken out, one in each cell of a lattice, apart from each other and from the outer faces.
 fn casting(seed: &mut Seed, voids: usize) -> Vec<u16> {
-    let per_side = (1..).find(|n| n * n * n >= voids).unwrap();
-    let cell = 60.0 / per_side as f64;
     let mut samples = vec![1000u16; SIDE * SIDE * SIDE];
-    for void in 0..voids {
-        let at = [
-            void % per_side,
-            void / per_side % per_side,
-            void / (per_side * per_side),
-        ];
-        let middle = at.map(|c| 2.0 + cell * (c as f64 + 0.5));
-        let half: [f64; 3] =
-            std::array::from_fn(|_| cell * (0.25 + seed.below(100) as f64 / 800.0));
-        let [xs, ys, zs] = [0, 1, 2].map(|axis| {
-            let (low, high) = (middle[axis] - half[axis], middle[axis] + half[axis]);
-            low as usize..=high as usize
-        });
-        for (z, y) in zs.flat_map(|z| ys.clone().map(move |y| (z, y))) {
-            for x in xs.clone() {
-                let here = [x, y, z];
-                let distance: f64 = (0..3)
-                    .map(|axis| ((here[axis] as f64 - middle[axis]) / half[axis]).powi(2))
-                    .sum();
-                if distance < 1.0 {
-                    samples[x + SIDE * (y + SIDE * z)] = 100 + seed.below(200) as u16;
-                }
-            }
+    let (length, middles) = lattice(voids, 2.0);
+    for middle in middles {
+        let half = std::array::from_fn(|_| length * (0.25 + seed.below(100) as f64 / 800.0));
+        for s in ellipsoid(middle, half) {
+            samples[s] = 100 + seed.below(200) as u16;
         }
     }
     samples
