@@ -1,10 +1,10 @@
 -- The answer for a case (document 01, "One cube", last paragraph).
 use mathlib.Core.List.{List, [], _∷_, flatMap, flatten}
-use Prim.Native.Nat.{ℕ}
+use Prim.Native.Nat.{ℕ, _*_}
 use lib.ListN.{length, getD}
 use Rattle.laws.specs.Range.{joinTo}
 use Rattle.laws.specs.Mesh.{Arrow, Triangle, triangle, cornersOf}
-use Rattle.cube.specs.Cube.{isAbove, edgeBetween, cubeEdges}
+use Rattle.cube.specs.Cube.{cases, isAbove, edgeBetween, cubeEdges}
 use Rattle.cube.specs.Face.{segmentsOf}
 use Rattle.cube.specs.Loop.{loops, fan}
 
@@ -32,16 +32,23 @@ count k = length (triangles k)
 unfoldable pub cornersAt : ℕ → ℕ → List ℕ
 cornersAt k n = cornersOf (getD (triangles k) n (triangle 0 0 0))
 
+-- no case has more triangles, and its answer has so many numbers
+abbrev pub mostCaseTriangles : ℕ
+mostCaseTriangles = 5
+
+abbrev pub caseLength : ℕ
+caseLength = 3 * mostCaseTriangles
+
 -- five triangles of three edge numbers each, unused ones zero
 unfoldable pub answer : ℕ → List (List ℕ)
 answer k = cornersAt k 0 ∷ cornersAt k 1 ∷ cornersAt k 2 ∷ cornersAt k 3 ∷ cornersAt k 4 ∷ []
 
--- the table: fifteen edge numbers for each of the 256 cases
+-- the table: fifteen edge numbers for each of the cases
 unfoldable pub row : ℕ → List ℕ
 row k = flatten (answer k)
 
 unfoldable pub table : List ℕ
-table = joinTo 256 row
+table = joinTo cases row
 
 unfoldable pub countTable : List ℕ
-countTable = joinTo 256 (λ k. count k ∷ [])
+countTable = joinTo cases (λ k. count k ∷ [])

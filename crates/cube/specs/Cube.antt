@@ -22,6 +22,13 @@ caseOf above = bits (above 0 ∷ above 1 ∷ above 2 ∷ above 3 ∷ above 4 ∷
 unfoldable pub isAbove : ℕ → ℕ → Bool
 isAbove k c = bit k c
 
+-- eight corners make so many cases, and a cube has twelve edges
+abbrev pub cases : ℕ
+cases = 2 ^ 8
+
+abbrev pub cubeEdgeCount : ℕ
+cubeEdgeCount = 12
+
 -- the edge that leaves corner c along x, along y, along z
 abbrev pub edgeAlongX : ℕ → ℕ
 edgeAlongX c = cornerY c + 2 * cornerZ c

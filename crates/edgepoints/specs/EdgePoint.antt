@@ -14,6 +14,10 @@ use Rattle.rows.specs.declared.Sides.{Sides}
 use Rattle.edgepoints.specs.declared.Sample.{Sample}
 use Rattle.edgepoints.specs.declared.Point.{Point}
 
+-- binary digits of an offset between samples of sixteen
+abbrev pub offsetDigits : ℕ
+offsetDigits = 26
+
 -- the three rooms
 pub record PointRooms : Type 0 where
   pub points : List ℕ

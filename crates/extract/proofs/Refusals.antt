@@ -6,6 +6,7 @@ use Prim.Native.Nat.{ℕ, _*_, _≤_}
 use native.Mathlib.Nat.{mul-le-mul}
 use lib.ListN.{length}
 use borrow.Author.Tests.{eq-eqb, ne-eqb}
+use Rattle.grid.specs.Limits.{mostSide, mostRows, mostSamples}
 use Rattle.grid.specs.Sides.{sidesFit}
 use Rattle.grid.specs.Grid.{axes, sampleCount, edgeCount}
 use Rattle.grid.specs.Work.{size, SidesFit}
@@ -14,8 +15,8 @@ use Rattle.extract.specs.Promise.{left}
 use Rattle.extract.proofs.Ways.{rows-most}
 
 -- no grid has more samples than this
-pub samples-most : (nx ny nz : ℕ) → SidesFit nx ny nz → nx * (ny * nz) ≤ 262144
-samples-most nx ny nz fits = mul-le-mul {n₁ = nx} {m₁ = ny * nz} {n₂ = 64} {m₂ = 4096} (fits .most-x) (rows-most nx ny nz fits)
+pub samples-most : (nx ny nz : ℕ) → SidesFit nx ny nz → nx * (ny * nz) ≤ mostSamples
+samples-most nx ny nz fits = mul-le-mul {n₁ = nx} {m₁ = ny * nz} {n₂ = mostSide} {m₂ = mostRows} (fits .most-x) (rows-most nx ny nz fits)
 
 module _ (nx ny nz grey : ℕ) (samples : List ℕ) (r : Rooms) where
   pub refused-sides : sidesFit nx ny nz ≡ false → left 1 0 0 r ≡ extracted nx ny nz grey samples r

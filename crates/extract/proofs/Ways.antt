@@ -10,7 +10,7 @@ use lib.ListN.{length, replicate, length-map}
 use borrow.Author.Tests.{ltb-false}
 use Rattle.laws.specs.Room.{laid}
 use Rattle.laws.specs.Mesh.{flat}
-use Rattle.grid.specs.Limits.{mostPoints, mostTriangles}
+use Rattle.grid.specs.Limits.{mostSide, mostRows, mostPoints, mostTriangles}
 use Rattle.grid.specs.Grid.{axes, isAboveGrey, mark}
 use Rattle.grid.specs.Point.{pointEdges, number, place}
 use Rattle.grid.specs.Mesh.{edgeMesh, mesh}
@@ -21,8 +21,8 @@ use Rattle.extract.specs.Extraction.{Rooms, Outcome, refused, cleared, p
 use Rattle.extract.specs.Promise.{rooms, left}
 
 -- a grid has no more rows than there is room for masks
-pub rows-most : (nx ny nz : ℕ) → SidesFit nx ny nz → ny * nz ≤ 4096
-rows-most nx ny nz fits = mul-le-mul {n₁ = ny} {m₁ = nz} {n₂ = 64} {m₂ = 64} (fits .most-y) (fits .most-z)
+pub rows-most : (nx ny nz : ℕ) → SidesFit nx ny nz → ny * nz ≤ mostRows
+rows-most nx ny nz fits = mul-le-mul {n₁ = ny} {m₁ = nz} {n₂ = mostSide} {m₂ = mostSide} (fits .most-y) (fits .most-z)
 
 module _ (nx ny nz grey : ℕ) (samples masks : List ℕ) (fits : SidesFit nx ny nz) (masked : Masked nx (ny * nz) grey samples masks) where
   abbrev masksPoints : List ℕ

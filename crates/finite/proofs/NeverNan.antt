@@ -30,7 +30,8 @@ use Rattle.finite.proofs.AtLeast.{AtLeast, Grain, mul-at-least}
 use Rattle.finite.proofs.Quotient.{div-at-most}
 use Rattle.finite.proofs.Cotangents.{power-most, power-least}
 use Rattle.curvature.proofs.Recovered.{left-granted}
-use Rattle.finite.proofs.SumSizes.{VectorMost, SumMost, sums-most}
+use Rattle.finite.proofs.Shares.{shareDigits, shareGrain}
+use Rattle.finite.proofs.SumSizes.{vectorDigits, VectorMost, SumMost, sums-most}
 
 -- the area of a point that is not flat is not 0
 zero-equals : (m e : ℕ) → m ≡ 0 → (eqb (m * 1) (0 * e) && (true || eqb (m * 1) 0)) ≡ true
@@ -44,7 +45,14 @@ not-flat l (fin true m e) h n = absurd (true≢false (h .0))
 not-flat l (fin false m e) (s, inl z) n = absurd (true≢false (sym (zero-equals (m * up e) (down e) z) ∙ n))
 not-flat l (fin false m e) (s, inr a) n = (refl, a)
 
--- so the last division is by at least 2^-33
+-- so many additions have so many digits
+abbrev additionDigits : ℕ
+additionDigits = 22
+
+abbrev storedDigits : ℕ
+storedDigits = vectorDigits + shareGrain
+
+-- so the last division is by no less than the least share
 over-most : (q j l : ℕ) (v : Vector) (k : Float) → q < 2 ^ 53 → j + l ≤ 900 → VectorMost q j v → AtLeast l k → VectorMost q (j + l) (over v k)
 unfolding over
 over-most q j l v k hq hj h a =
@@ -57,22 +65,22 @@ over-most q j l v k hq hj h a =
 none-most : (q j : ℕ) → VectorMost q j noVector
 none-most q j = record { x = omega arith; y = omega arith; z = omega arith }
 
-module _ (q : ℕ) (few : q ≤ 2 ^ 22) (s : Sum) (h : SumMost q s) where
-  four-least : AtLeast 33 (s .area) → AtLeast 33 (mul binary64 (whole (pos 4)) (s .area))
+module _ (q : ℕ) (few : q ≤ 2 ^ additionDigits) (s : Sum) (h : SumMost q s) where
+  four-least : AtLeast shareGrain (s .area) → AtLeast shareGrain (mul binary64 (whole (pos 4)) (s .area))
   four-least a =
-      mul-at-least 0 33 1 84 (whole (pos 4)) (s .area) (omega arith) (power-least 2 (omega arith)) a
-      (mul-at-most 2 82 (whole (pos 4)) (s .area) (omega arith) (power-most 2 (omega arith)) (at-most-more q 60 1 82 (s .area) (omega arith) (h .area-most)))
+      mul-at-least 0 shareGrain 1 (2 + (shareDigits + additionDigits)) (whole (pos 4)) (s .area) (omega arith) (power-least 2 (omega arith)) a
+      (mul-at-most 2 (shareDigits + additionDigits) (whole (pos 4)) (s .area) (omega arith) (power-most 2 (omega arith)) (at-most-more q shareDigits 1 (shareDigits + additionDigits) (s .area) (omega arith) (h .area-most)))
 
-  stored-most : (mark : ℕ) → VectorMost q 77 (storedVector (answerFrom mark s))
+  stored-most : (mark : ℕ) → VectorMost q storedDigits (storedVector (answerFrom mark s))
   unfolding answerFrom answerOf storedVector
   stored-most mark = go (eqb mark 1) (eq (s .area) plusZero) refl
     where
       go : (marked flat : Bool) → eq (s .area) plusZero ≡ flat
-          → VectorMost q 77 (storedVector (cond marked (Open (s .area)) (cond flat Flat (Bent (s .area) (over (s .vector) (mul binary64 (whole (pos 4)) (s .area)))))))
-      go true flat e = none-most q 77
-      go false true e = none-most q 77
+          → VectorMost q storedDigits (storedVector (cond marked (Open (s .area)) (cond flat Flat (Bent (s .area) (over (s .vector) (mul binary64 (whole (pos 4)) (s .area)))))))
+      go true flat e = none-most q storedDigits
+      go false true e = none-most q storedDigits
       go false false e =
-          over-most q 44 33 (s .vector) (mul binary64 (whole (pos 4)) (s .area)) (omega arith) (omega arith) (h .vector-most) (four-least (not-flat 33 (s .area) (h .area-grain) e))
+          over-most q vectorDigits shareGrain (s .vector) (mul binary64 (whole (pos 4)) (s .area)) (omega arith) (omega arith) (h .vector-most) (four-least (not-flat shareGrain (s .area) (h .area-grain) e))
 
 -- as the logic's own tests say it
 is-finite : (q j : ℕ) (x : Float) → AtMost q j x → finite x ≡ true
@@ -114,7 +122,7 @@ module _ (points triangles marks : List ℕ) (pass : meshNumber points triangles
   unfolding sumsFor
   sum-most x = sums-most points (checked .small) triangles x (triangleCount triangles) (checked .triangles-few)
 
-  few-additions : 6 * triangleCount triangles ≤ 2 ^ 22
+  few-additions : 6 * triangleCount triangles ≤ 2 ^ additionDigits
   few-additions = omega (arith, checked .triangles-few)
 
   area-at : (i : ℕ) → i < length marks → getD (granted points triangles marks .areas) i nan ≡ sumsFor points triangles i .area
@@ -134,9 +142,9 @@ module _ (points triangles marks : List ℕ) (pass : meshNumber points triangles
   granted-finite =
       let n = 6 * triangleCount triangles in
       record {
-        area-finite = λ i h. rw (area-at i h) (is-finite n 60 (sumsFor points triangles i .area) (sum-most i .area-most));
-        area-least = λ i h. rw (area-at i h) (not-negative 33 (sumsFor points triangles i .area) (sum-most i .area-grain));
-        vector-finite = λ i h. rw (number-at i h) (one-of-three n 77 (i % 3) (storedVector (answerFor points triangles marks (i / 3))) (omega arith) (stored-most n few-additions (sumsFor points triangles (i / 3)) (sum-most (i / 3)) (getD marks (i / 3) 0)));
+        area-finite = λ i h. rw (area-at i h) (is-finite n shareDigits (sumsFor points triangles i .area) (sum-most i .area-most));
+        area-least = λ i h. rw (area-at i h) (not-negative shareGrain (sumsFor points triangles i .area) (sum-most i .area-grain));
+        vector-finite = λ i h. rw (number-at i h) (one-of-three n storedDigits (i % 3) (storedVector (answerFor points triangles marks (i / 3))) (omega arith) (stored-most n few-additions (sumsFor points triangles (i / 3)) (sum-most (i / 3)) (getD marks (i / 3) 0)));
       }
 
   -- so no NaN stands there

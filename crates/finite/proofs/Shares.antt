@@ -6,6 +6,7 @@ use native.Mathlib.Omega.{arith}
 use lib.IntN.{pos}
 use lib.Ieee.{Float, binary64, add, mul, div}
 use Rattle.laws.specs.Signed.{negative}
+use Rattle.grid.specs.Limits.{rootDigits}
 use Rattle.measures.specs.declared.corners.Dots.{Dots}
 use Rattle.measures.specs.declared.corners.Corners.{Corners}
 use Rattle.measures.specs.Vectors.{whole}
@@ -15,34 +16,40 @@ use Rattle.finite.proofs.AtLeast.{AtLeast, Grain, at-least-grain, grain
 use Rattle.finite.proofs.Quotient.{div-at-most, div-grain}
 use Rattle.finite.proofs.Cotangents.{Each, power-most, power-least}
 
--- a share is at most 2·2^60, and 0 or at least 2^-33
+-- a share is at most twice a square times a cotangent, and 0 or at least an eighth of the least cotangent
+abbrev pub shareDigits : ℕ
+shareDigits = rootDigits + rootDigits
+
+abbrev pub shareGrain : ℕ
+shareGrain = rootDigits + 3
+
 pub record Share (x : Float) : Type 0 where
-  pub most : AtMost 2 60 x
-  pub grain : Grain 33 x
+  pub most : AtMost 2 shareDigits x
+  pub grain : Grain shareGrain x
 
 -- where it is worked out from two squares and two cotangents
-module _ (lj cotj lk cotk : Float) (lj-most : AtMost 1 30 lj) (cotj-most : AtMost 1 30 cotj) (lk-most : AtMost 1 30 lk) (cotk-most : AtMost 1 30 cotk)
-    (lj-grain : Grain 0 lj) (cotj-grain : Grain 30 cotj) (lk-grain : Grain 0 lk) (cotk-grain : Grain 30 cotk) where
+module _ (lj cotj lk cotk : Float) (lj-most : AtMost 1 rootDigits lj) (cotj-most : AtMost 1 rootDigits cotj) (lk-most : AtMost 1 rootDigits lk) (cotk-most : AtMost 1 rootDigits cotk)
+    (lj-grain : Grain 0 lj) (cotj-grain : Grain rootDigits cotj) (lk-grain : Grain 0 lk) (cotk-grain : Grain rootDigits cotk) where
   abbrev both-sides : Float
   both-sides = add binary64 (mul binary64 lj cotj) (mul binary64 lk cotk)
 
-  both-most : AtMost 2 60 both-sides
-  both-most = add-at-most 1 1 60 (mul binary64 lj cotj) (mul binary64 lk cotk) (omega arith) (omega arith) (mul-at-most 30 30 lj cotj (omega arith) lj-most cotj-most) (mul-at-most 30 30 lk cotk (omega arith) lk-most cotk-most)
+  both-most : AtMost 2 shareDigits both-sides
+  both-most = add-at-most 1 1 shareDigits (mul binary64 lj cotj) (mul binary64 lk cotk) (omega arith) (omega arith) (mul-at-most rootDigits rootDigits lj cotj (omega arith) lj-most cotj-most) (mul-at-most rootDigits rootDigits lk cotk (omega arith) lk-most cotk-most)
 
-  both-grain : Grain 30 both-sides
+  both-grain : Grain rootDigits both-sides
   both-grain =
-      add-grain 30 2 60 (mul binary64 lj cotj) (mul binary64 lk cotk) (omega arith)
-      (mul-grain 0 30 1 60 lj cotj (omega arith) lj-grain cotj-grain (mul-at-most 30 30 lj cotj (omega arith) lj-most cotj-most))
-      (mul-grain 0 30 1 60 lk cotk (omega arith) lk-grain cotk-grain (mul-at-most 30 30 lk cotk (omega arith) lk-most cotk-most))
+      add-grain rootDigits 2 shareDigits (mul binary64 lj cotj) (mul binary64 lk cotk) (omega arith)
+      (mul-grain 0 rootDigits 1 shareDigits lj cotj (omega arith) lj-grain cotj-grain (mul-at-most rootDigits rootDigits lj cotj (omega arith) lj-most cotj-most))
+      (mul-grain 0 rootDigits 1 shareDigits lk cotk (omega arith) lk-grain cotk-grain (mul-at-most rootDigits rootDigits lk cotk (omega arith) lk-most cotk-most))
       both-most
 
   pub acute-share : Share (acuteShare lj cotj lk cotk)
   unfolding acuteShare
   acute-share =
-      let m = div-at-most 2 60 0 both-sides (whole (pos 8)) (omega arith) (omega arith) both-most (power-least 3 (omega arith)) in
-      record { most = m; grain = div-grain 30 3 0 2 60 both-sides (whole (pos 8)) (omega arith) both-grain (power-most 3 (omega arith)) (power-least 3 (omega arith)) m }
+      let m = div-at-most 2 shareDigits 0 both-sides (whole (pos 8)) (omega arith) (omega arith) both-most (power-least 3 (omega arith)) in
+      record { most = m; grain = div-grain rootDigits 3 0 2 shareDigits both-sides (whole (pos 8)) (omega arith) both-grain (power-most 3 (omega arith)) (power-least 3 (omega arith)) m }
 
-pub acute-each : (l cot : Corners) → Each (AtMost 1 30) l → Each (Grain 0) l → Each (AtMost 1 30) cot → Each (Grain 30) cot → Each Share (acuteShares l cot)
+pub acute-each : (l cot : Corners) → Each (AtMost 1 rootDigits) l → Each (Grain 0) l → Each (AtMost 1 rootDigits) cot → Each (Grain rootDigits) cot → Each Share (acuteShares l cot)
 unfolding acuteShares
 acute-each l cot lm lg cm cg =
     record {
@@ -52,15 +59,15 @@ acute-each l cot lm lg cm cg =
     }
 
 -- a part of D: D / 4 and D / 8
-part-share : (s : ℕ) (double : Float) → s ≤ 30 → AtMost 1 30 double → AtLeast 0 double → Share (div binary64 double (whole (pos (2 ^ s))))
+part-share : (s : ℕ) (double : Float) → s ≤ rootDigits → AtMost 1 rootDigits double → AtLeast 0 double → Share (div binary64 double (whole (pos (2 ^ s))))
 part-share s double h most least =
     let part = div binary64 double (whole (pos (2 ^ s))) in
-    let m : AtMost 1 30 part = div-at-most 1 30 0 double (whole (pos (2 ^ s))) (omega arith) (omega arith) most (power-least s h) in
-    let g : Grain (0 + s) part = div-grain 0 s 0 1 30 double (whole (pos (2 ^ s))) (omega arith) (at-least-grain 0 double least) (power-most s h) (power-least s h) m in
-    record { most = at-most-more 1 30 2 60 part (omega arith) m; grain = grain-more (0 + s) 33 part (omega arith) g }
+    let m : AtMost 1 rootDigits part = div-at-most 1 rootDigits 0 double (whole (pos (2 ^ s))) (omega arith) (omega arith) most (power-least s h) in
+    let g : Grain (0 + s) part = div-grain 0 s 0 1 rootDigits double (whole (pos (2 ^ s))) (omega arith) (at-least-grain 0 double least) (power-most s h) (power-least s h) m in
+    record { most = at-most-more 1 rootDigits 2 shareDigits part (omega arith) m; grain = grain-more (0 + s) shareGrain part (omega arith) g }
 
 -- the shares, by the corner whose d is negative
-module _ (d : Dots) (l cot : Corners) (double : Float) (most : AtMost 1 30 double) (least : AtLeast 0 double)
+module _ (d : Dots) (l cot : Corners) (double : Float) (most : AtMost 1 rootDigits double) (least : AtLeast 0 double)
     (acute : negative (d .one) ≡ false → negative (d .two) ≡ false → negative (d .three) ≡ false → Each Share (acuteShares l cot)) where
   abbrev quarter : Float
   quarter = div binary64 double (whole (pos 4))

@@ -11,7 +11,7 @@ use lib.Ieee.{Float, binary64, ofInt, add}
 use lib.ListN.{getD}
 use borrow.Author.Tests.{eqb-false}
 use Rattle.laws.specs.Mesh.{Triangle}
-use Rattle.grid.specs.Limits.{mostCoordinate, mostTriangles}
+use Rattle.grid.specs.Limits.{coordinateDigits, rootDigits, mostCoordinate, mostTriangles}
 use Rattle.mesh.specs.Mesh.{triangleAt}
 use Rattle.mesh.specs.declared.Place.{Place}
 use Rattle.mesh.specs.Place.{placeOf, Near}
@@ -27,7 +27,11 @@ use Rattle.measures.proofs.Bounds.{between-within, cross-at-small, dots-small}
 use Rattle.finite.proofs.AtMost.{AtMost, at-most-more, whole-at-most, add-at-most, mul-at-most}
 use Rattle.finite.proofs.AtLeast.{Grain, add-grain}
 use Rattle.finite.proofs.Cotangents.{Each, double-most, double-least, squares-most, squares-grain, cotangents-most, cotangents-grain}
-use Rattle.finite.proofs.Shares.{Share, acute-each, shares-each}
+use Rattle.finite.proofs.Shares.{shareDigits, shareGrain, Share, acute-each, shares-each}
+
+-- a cotangent times a coordinate of a side
+abbrev pub vectorDigits : ℕ
+vectorDigits = rootDigits + coordinateDigits
 
 -- each number of a vector is at most q·2^j in size
 pub record VectorMost (q j : ℕ) (v : Vector) : Type 0 where
@@ -35,70 +39,70 @@ pub record VectorMost (q j : ℕ) (v : Vector) : Type 0 where
   pub y : AtMost q j (v .y)
   pub z : AtMost q j (v .z)
 
-coordinate-most : (a : ℤ) → natAbs a ≤ mostCoordinate → AtMost 1 14 (ofInt binary64 a)
-coordinate-most a h = whole-at-most 1 14 a (omega arith) (omega arith) (omega arith)
+coordinate-most : (a : ℤ) → natAbs a ≤ mostCoordinate → AtMost 1 coordinateDigits (ofInt binary64 a)
+coordinate-most a h = whole-at-most 1 coordinateDigits a (omega arith) (omega arith) (omega arith)
 
-side-most : (u : Side) → Within mostCoordinate u → VectorMost 1 14 (ofSide u)
+side-most : (u : Side) → Within mostCoordinate u → VectorMost 1 coordinateDigits (ofSide u)
 unfolding ofSide
 side-most u h = record { x = coordinate-most (u .x) (h .x); y = coordinate-most (u .y) (h .y); z = coordinate-most (u .z) (h .z) }
 
-times-most : (k : Float) (v : Vector) → AtMost 1 30 k → VectorMost 1 14 v → VectorMost 1 44 (times k v)
+times-most : (k : Float) (v : Vector) → AtMost 1 rootDigits k → VectorMost 1 coordinateDigits v → VectorMost 1 vectorDigits (times k v)
 unfolding times
 times-most k v h g =
     record {
-      x = mul-at-most 30 14 k (v .x) (omega arith) h (g .x);
-      y = mul-at-most 30 14 k (v .y) (omega arith) h (g .y);
-      z = mul-at-most 30 14 k (v .z) (omega arith) h (g .z);
+      x = mul-at-most rootDigits coordinateDigits k (v .x) (omega arith) h (g .x);
+      y = mul-at-most rootDigits coordinateDigits k (v .y) (omega arith) h (g .y);
+      z = mul-at-most rootDigits coordinateDigits k (v .z) (omega arith) h (g .z);
     }
 
-plus-most : (q : ℕ) (v w : Vector) → q + 1 < 2 ^ 53 → VectorMost q 44 v → VectorMost 1 44 w → VectorMost (q + 1) 44 (plus v w)
+plus-most : (q : ℕ) (v w : Vector) → q + 1 < 2 ^ 53 → VectorMost q vectorDigits v → VectorMost 1 vectorDigits w → VectorMost (q + 1) vectorDigits (plus v w)
 unfolding plus
 plus-most q v w l h g =
     record {
-      x = add-at-most q 1 44 (v .x) (w .x) l (omega arith) (h .x) (g .x);
-      y = add-at-most q 1 44 (v .y) (w .y) l (omega arith) (h .y) (g .y);
-      z = add-at-most q 1 44 (v .z) (w .z) l (omega arith) (h .z) (g .z);
+      x = add-at-most q 1 vectorDigits (v .x) (w .x) l (omega arith) (h .x) (g .x);
+      y = add-at-most q 1 vectorDigits (v .y) (w .y) l (omega arith) (h .y) (g .y);
+      z = add-at-most q 1 vectorDigits (v .z) (w .z) l (omega arith) (h .z) (g .z);
     }
 
-vector-more : (q r : ℕ) (v : Vector) → q ≤ r → VectorMost q 44 v → VectorMost r 44 v
+vector-more : (q r : ℕ) (v : Vector) → q ≤ r → VectorMost q vectorDigits v → VectorMost r vectorDigits v
 vector-more q r v l h =
     record {
-      x = at-most-more q 44 r 44 (v .x) (omega arith) (h .x);
-      y = at-most-more q 44 r 44 (v .y) (omega arith) (h .y);
-      z = at-most-more q 44 r 44 (v .z) (omega arith) (h .z);
+      x = at-most-more q vectorDigits r vectorDigits (v .x) (omega arith) (h .x);
+      y = at-most-more q vectorDigits r vectorDigits (v .y) (omega arith) (h .y);
+      z = at-most-more q vectorDigits r vectorDigits (v .z) (omega arith) (h .z);
     }
 
 -- a point's sums: an area that is not negative, and a running vector
 pub record SumMost (q : ℕ) (s : Sum) : Type 0 where
-  pub area-most : AtMost q 60 (s .area)
-  pub area-grain : Grain 33 (s .area)
-  pub vector-most : VectorMost q 44 (s .vector)
+  pub area-most : AtMost q shareDigits (s .area)
+  pub area-grain : Grain shareGrain (s .area)
+  pub vector-most : VectorMost q vectorDigits (s .vector)
 
 sum-more : (q r : ℕ) (s : Sum) → q ≤ r → SumMost q s → SumMost r s
 sum-more q r s l h =
-    record { area-most = at-most-more q 60 r 60 (s .area) (omega arith) (h .area-most); area-grain = h .area-grain; vector-most = vector-more q r (s .vector) l (h .vector-most) }
+    record { area-most = at-most-more q shareDigits r shareDigits (s .area) (omega arith) (h .area-most); area-grain = h .area-grain; vector-most = vector-more q r (s .vector) l (h .vector-most) }
 
 start-most : SumMost 0 start
 start-most = record { area-most = omega arith; area-grain = (refl, inl refl); vector-most = record { x = omega arith; y = omega arith; z = omega arith } }
 
 -- one corner
 module _ (n : ℕ) (few : n + 2 < 2 ^ 53) (p q r : Place) (hp : Near p) (hq : Near q) (hr : Near r) where
-  sides-most : (cotj cotk : Float) (v : Vector) → AtMost 1 30 cotj → AtMost 1 30 cotk → VectorMost n 44 v → VectorMost (n + 2) 44 (addSides p q r cotj cotk v)
+  sides-most : (cotj cotk : Float) (v : Vector) → AtMost 1 rootDigits cotj → AtMost 1 rootDigits cotk → VectorMost n vectorDigits v → VectorMost (n + 2) vectorDigits (addSides p q r cotj cotk v)
   unfolding addSides
   sides-most cotj cotk v hj hk h =
       let one = times cotk (ofSide (between p q)) in
       let two = times cotj (ofSide (between p r)) in
-      let first : VectorMost 1 44 one = times-most cotk (ofSide (between p q)) hk (side-most (between p q) (between-within p q hp hq)) in
-      let second : VectorMost 1 44 two = times-most cotj (ofSide (between p r)) hj (side-most (between p r) (between-within p r hp hr)) in
+      let first : VectorMost 1 vectorDigits one = times-most cotk (ofSide (between p q)) hk (side-most (between p q) (between-within p q hp hq)) in
+      let second : VectorMost 1 vectorDigits two = times-most cotj (ofSide (between p r)) hj (side-most (between p r) (between-within p r hp hr)) in
       vector-more (n + 1 + 1) (n + 2) (plus (plus v one) two) (omega arith) (plus-most (n + 1) (plus v one) two (omega arith) (plus-most n v one (omega arith) h first) second)
 
-  corner-most : (share cotj cotk : Float) (s : Sum) → Share share → AtMost 1 30 cotj → AtMost 1 30 cotk → SumMost n s → SumMost (n + 2) (addCorner p q r share cotj cotk s)
+  corner-most : (share cotj cotk : Float) (s : Sum) → Share share → AtMost 1 rootDigits cotj → AtMost 1 rootDigits cotk → SumMost n s → SumMost (n + 2) (addCorner p q r share cotj cotk s)
   unfolding addCorner
   corner-most share cotj cotk s hs hj hk h =
-      let area : AtMost (n + 2) 60 (add binary64 (s .area) share) = add-at-most n 2 60 (s .area) share few (omega arith) (h .area-most) (hs .most) in
+      let area : AtMost (n + 2) shareDigits (add binary64 (s .area) share) = add-at-most n 2 shareDigits (s .area) share few (omega arith) (h .area-most) (hs .most) in
       record {
         area-most = area;
-        area-grain = add-grain 33 (n + 2) 60 (s .area) share (omega arith) (h .area-grain) (hs .grain) area;
+        area-grain = add-grain shareGrain (n + 2) shareDigits (s .area) share (omega arith) (h .area-grain) (hs .grain) area;
         vector-most = sides-most cotj cotk (s .vector) hj hk (h .vector-most);
       }
 
@@ -116,7 +120,7 @@ above (suc n) h = omega arith
 
 -- three corners
 module _ (n : ℕ) (few : n + 6 < 2 ^ 53) (t : Triangle) (p q r : Place) (hp : Near p) (hq : Near q) (hr : Near r) (point : ℕ) (s : Sum) (h : SumMost n s) where
-  corners-most : (share cot : Corners) → Each Share share → Each (AtMost 1 30) cot → SumMost (n + 6) (addCorners t p q r share cot point s)
+  corners-most : (share cot : Corners) → Each Share share → Each (AtMost 1 rootDigits) cot → SumMost (n + 6) (addCorners t p q r share cot point s)
   unfolding addCorners
   corners-most share cot hs hc =
       let first = addCorner p q r (share .one) (cot .two) (cot .three) in

@@ -1,5 +1,5 @@
 -- Document 01, "Numbers and sizes": every bound of the base, here and nowhere else. Samples and the grey value are numbers of 16 bits, so that the code needs no bound of theirs.
-use Prim.Native.Nat.{ℕ, _*_, _-_}
+use Prim.Native.Nat.{ℕ, _*_, _-_, _/_}
 
 -- each side nx, ny, nz
 abbrev pub leastSide : ℕ
@@ -11,6 +11,16 @@ mostSide = 64
 -- the largest sample, grey value and number of a grid's text
 abbrev pub mostNumber : ℕ
 mostNumber = 65535
+
+-- rows of samples along x, samples, and grid edges, three of which leave each sample
+abbrev pub mostRows : ℕ
+mostRows = mostSide * mostSide
+
+abbrev pub mostSamples : ℕ
+mostSamples = mostSide * mostRows
+
+abbrev pub mostEdges : ℕ
+mostEdges = 3 * mostSamples
 
 -- points V and triangles T
 abbrev pub mostPoints : ℕ
@@ -25,6 +35,21 @@ unit = 256
 
 abbrev pub mostCoordinate : ℕ
 mostCoordinate = unit * (mostSide - 1)
+
+-- binary digits of a coordinate: 2^14 is beyond the greatest
+abbrev pub coordinateDigits : ℕ
+coordinateDigits = 14
+
+-- "Areas and mean curvature": the window of N·4^s has its end, and does not reach it, at 2^60, and begins at 2^58. No N is beyond its end.
+abbrev pub windowTo : ℕ
+windowTo = 60
+
+abbrev pub windowFrom : ℕ
+windowFrom = windowTo - 2
+
+-- binary digits of the root r
+abbrev pub rootDigits : ℕ
+rootDigits = windowTo / 2
 
 -- rounds k and weight w
 abbrev pub mostRounds : ℕ

@@ -3,6 +3,9 @@ pub const LEAST_SIDE: u32 = 2;
 
 pub const MOST_SIDE: u32 = 64;
 
+// Rows of samples along x.
+pub const MOST_ROWS: usize = (MOST_SIDE * MOST_SIDE) as usize;
+
 // The largest number of a grid's text.
 pub const MOST_NUMBER: u64 = 65_535;
 
@@ -15,6 +18,9 @@ pub const UNIT: u32 = 256;
 
 // The last sample's coordinate on the longest side, in units.
 pub const MOST_COORDINATE: u32 = UNIT * (MOST_SIDE - 1);
+
+// The root's window ends at 2 to this power.
+pub const WINDOW_TO: u32 = 60;
 
 pub const MOST_ROUNDS: u32 = 100;
 

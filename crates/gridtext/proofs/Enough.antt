@@ -13,7 +13,7 @@ use Rattle.grid.specs.Limits.{mostSmall, mostNumber}
 use Rattle.lines.specs.Decimal.{isDigit}
 use Rattle.reading.specs.Reading.{Got, bad, got, after, digitsOn, readNumber, endedBy, readField, readRow, GotRows, lineThen, readRows}
 use Rattle.lines.specs.Line.{tab, endOf}
-use Rattle.gridtext.specs.Grid.{letterG, headOf, readHead, headNumber, withHead, readGrid, mostRead}
+use Rattle.gridtext.specs.Grid.{longestHead, letterG, headOf, readHead, headNumber, withHead, readGrid, mostRead}
 use Rattle.gridtext.specs.declared.Head.{Head}
 use Rattle.lines.proofs.Decimals.{of-digit}
 use Rattle.gridtext.proofs.Checks.{passed}
@@ -111,7 +111,7 @@ row-enough (suc w) m k l =
     (λ n. after-enough j k k (readRow mostNumber w) (λ ns rest. got (n ∷ ns) rest) (row-enough w j k (le-refl j)) (λ ns. got-enough k k (n ∷ ns) (le-refl k)))
 
 -- line 1
-head-enough : (m k : ℕ) → k + 38 ≤ m → Enough m k readHead
+head-enough : (m k : ℕ) → k + longestHead ≤ m → Enough m k readHead
 unfolding readHead
 head-enough zero k l bs = absurd (omega arith)
 head-enough (suc zero) k l bs = absurd (omega arith)

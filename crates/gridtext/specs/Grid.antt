@@ -74,7 +74,13 @@ withHead room (got h rest) =
 unfoldable pub readGrid : List ℕ → List ℕ → Outcome
 readGrid input room = withHead room (readHead input)
 
--- no more of a text is looked at: line 1 has at most 38 bytes (`G`, a tab, and six numbers of at most five digits, each with the byte that
--- ends it), a sample has at most six, and one byte more shows that bytes follow
+-- a number up to 65,535 has at most five digits, and the byte that ends it; line 1 is `G`, a tab and six of them
+abbrev pub longestSample : ℕ
+longestSample = 5 + 1
+
+abbrev pub longestHead : ℕ
+longestHead = 2 + longestSample * 6
+
+-- no more of a text is looked at: one byte more shows that bytes follow
 abbrev pub mostRead : ℕ
-mostRead = 38 + 6 * mostSmall + 1
+mostRead = longestHead + longestSample * mostSmall + 1

@@ -5,6 +5,10 @@ use Prim.Native.Nat.{ℕ, zero, suc, _+_, _*_, _/_, _%_}
 use lib.Dec.{eqb}
 use Rattle.laws.specs.Range.{one-if}
 
+-- the bits of a machine word
+abbrev pub wordBits : ℕ
+wordBits = 64
+
 -- the number in which bit i is set when the i-th of the list is true
 unfoldable pub bits : List Bool → ℕ
 bits [] = 0

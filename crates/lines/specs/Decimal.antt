@@ -6,11 +6,14 @@ use lib.Dec.{leb, ltb}
 use lib.IntN.{ℤ, pos, negsuc}
 
 -- the digits `0` to `9` are the bytes 48 to 57
+abbrev pub digitZero : ℕ
+digitZero = 48
+
 abbrev pub digit : ℕ → ℕ
-digit d = 48 + d
+digit d = digitZero + d
 
 unfoldable pub isDigit : ℕ → Bool
-isDigit b = leb 48 b && leb b 57
+isDigit b = leb (digit 0) b && leb b (digit 9)
 
 -- the digits of n, the highest first, if they are at most k
 unfoldable pub decimalTo : ℕ → ℕ → List ℕ
@@ -22,6 +25,9 @@ unfoldable pub decimal : ℕ → List ℕ
 decimal n = decimalTo (suc n) n
 
 -- a signed number has a minus sign if it is negative
+abbrev pub minusSign : ℕ
+minusSign = 45
+
 unfoldable pub signed : ℤ → List ℕ
 signed (pos n) = decimal n
-signed (negsuc n) = 45 ∷ decimal (suc n)
+signed (negsuc n) = minusSign ∷ decimal (suc n)

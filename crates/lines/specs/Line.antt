@@ -1,6 +1,6 @@
 -- Lines of numbers as text: fields parted by tabs, a line ended by a line feed.
 use mathlib.Core.List.{List, [], _∷_, _++_}
-use Prim.Native.Nat.{ℕ, zero, suc, _+_}
+use Prim.Native.Nat.{ℕ, zero, suc, _+_, _*_}
 use lib.ListN.{length}
 use Rattle.lines.specs.Decimal.{decimal}
 
@@ -24,6 +24,21 @@ line (n ∷ ns) = decimal n ++ endOf (length ns) ∷ line ns
 unfoldable pub fields : ℕ → List ℕ → List ℕ
 fields more [] = []
 fields more (n ∷ ns) = decimal n ++ endOf (length ns + more) ∷ fields more ns
+
+-- a line of ours has no more fields
+abbrev pub mostFields : ℕ
+mostFields = 256
+
+-- a number below 2^64 has at most twenty digits, and one below 2^63 in size at most nineteen beside its sign; a field ends in one byte more
+abbrev pub longestNumber : ℕ
+longestNumber = 20
+
+abbrev pub longestField : ℕ
+longestField = longestNumber + 1
+
+-- so a letter, its tab and so many fields take at most so many bytes
+abbrev pub longestLine : ℕ → ℕ
+longestLine k = 2 + longestField * k
 
 -- a line that starts with a letter
 unfoldable pub lettered : ℕ → List ℕ → List ℕ

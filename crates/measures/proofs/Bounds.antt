@@ -7,8 +7,7 @@ use lib.IntN.{ℤ, natAbs, _+ℤ_, _-ℤ_, _*ℤ_}
 use lib.Signed.{mag}
 use mir.Syntax.{w64}
 use mir.Val.{toZ, ofZ}
-use Rattle.grid.specs.Limits.{mostCoordinate}
-use Rattle.root.specs.Root.{windowTo}
+use Rattle.grid.specs.Limits.{windowTo, mostCoordinate}
 use Rattle.mesh.specs.declared.Place.{Place}
 use Rattle.mesh.specs.Place.{Near}
 use Rattle.measures.specs.declared.sides.Side.{Side}

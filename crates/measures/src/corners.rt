@@ -2,7 +2,7 @@
 ghost use mathlib.Core.Path.{_≡_};
 ghost use Prim.Native.Nat.{_^_, _<_};
 ghost use lib.IntN.{pos};
-ghost use Rattle.root.specs.Root.{windowTo};
+ghost use Rattle.grid.specs.Limits.{windowTo};
 ghost use Rattle.mesh.specs.Place.{Near};
 ghost use Rattle.measures.specs.Sides.{between, squared};
 ghost use Rattle.measures.specs.Vectors.{whole};

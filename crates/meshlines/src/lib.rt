@@ -4,6 +4,7 @@ ghost use Prim.Native.Nat.{_+_, _*_, _≤_, _<_};
 ghost use lib.ListN.{length};
 ghost use lib.Seq.{sets};
 ghost use Rattle.grid.specs.Limits.{mostPoints, mostTriangles};
+ghost use Rattle.lines.specs.Line.{longestLine};
 ghost use Rattle.meshlines.specs.MeshLines.{pointNumbers, pointsText, triangleNumbers, trianglesText, shellNumbers, shellText, shellsText};
 use writing::fields_length;
 use writing::signed_length;
@@ -30,7 +31,7 @@ fn point_numbers(points: &[u32], edges: &[u32], marks: &[u8], i: usize) -> [u32;
 pub fn points_length(points: &[u32], edges: &[u32], marks: &[u8], v: usize) -> usize
     requires { ⌜ (3 * v ≤ length (now points)) × (v ≤ length (now edges)) × (v ≤ length (now marks)) × (v ≤ mostPoints) ⌝ }
     ensures length { λ r. ⌜ r ≡ length (pointsText (now (points .entry)) (now (edges .entry)) (now (marks .entry)) v) ⌝ }
-    ensures small { λ r. ⌜ r ≤ 107 * v ⌝ }
+    ensures small { λ r. ⌜ r ≤ longestLine 5 * v ⌝ }
 {
     let mut sum = 0;
     let mut i = 0;
@@ -79,7 +80,7 @@ fn triangle_numbers(triangles: &[u32], i: usize) -> [u32; 3]
 pub fn triangles_length(triangles: &[u32], t: usize) -> usize
     requires { ⌜ (3 * t ≤ length (now triangles)) × (t ≤ mostTriangles) ⌝ }
     ensures length { λ r. ⌜ r ≡ length (trianglesText (now (triangles .entry)) t) ⌝ }
-    ensures small { λ r. ⌜ r ≤ 65 * t ⌝ }
+    ensures small { λ r. ⌜ r ≤ longestLine 3 * t ⌝ }
 {
     let mut sum = 0;
     let mut i = 0;
@@ -126,7 +127,7 @@ fn shell_numbers(records: &[u32], i: usize) -> [u32; 4]
 pub fn shells_length(records: &[u32], volumes: &[i64]) -> usize
     requires { ⌜ (4 * length (now volumes) ≤ length (now records)) × (length (now volumes) ≤ mostPoints) ⌝ }
     ensures length { λ r. ⌜ r ≡ length (shellsText (now (records .entry)) (now (volumes .entry)) (length (now (volumes .entry)))) ⌝ }
-    ensures small { λ r. ⌜ r ≤ 107 * length (now (volumes .entry)) ⌝ }
+    ensures small { λ r. ⌜ r ≤ longestLine 5 * length (now (volumes .entry)) ⌝ }
 {
     let mut sum = 0;
     let mut i = 0;

@@ -16,7 +16,7 @@ use Rattle.mesh.specs.Check.{lengthsFit}
 use Rattle.lines.specs.Line.{fields, lettered}
 use Rattle.writing.specs.Writing.{outcome, written}
 use Rattle.meshlines.specs.MeshLines.{pointsText, trianglesText, shellsText}
-use Rattle.meshtext.specs.MeshText.{linesOf, meshText, listsFit, recordsFit, meshWritten}
+use Rattle.meshtext.specs.MeshText.{letterM, linesOf, meshText, listsFit, recordsFit, meshWritten}
 use Rattle.writing.proofs.Fields.{lettered-length}
 
 pub lists-fit : (p e m t : ℕ) → listsFit p e m t ≡ true → (p ≡ 3 * m) × (e ≡ m) × (m ≤ mostPoints) × (t / 3 ≤ mostTriangles)
@@ -47,15 +47,15 @@ module _ (counts points edges marks triangles records : List ℕ) (volumes : Lis
   pub lines-of-length : length (linesOf counts points edges marks triangles records volumes) ≡ 2 + length (fields 0 counts) + length p + length t + length s
   unfolding linesOf
   lines-of-length =
-      rw (length-append (lettered 77 counts) (p ++ (t ++ s)), length-append p (t ++ s), length-append t s, lettered-length 77 counts) (omega arith)
+      rw (length-append (lettered letterM counts) (p ++ (t ++ s)), length-append p (t ++ s), length-append t s, lettered-length letterM counts) (omega arith)
 
-  pub lines-of-written : (room one two three four : List ℕ) (at behind beyond : ℕ) → one ≡ sets room 0 (lettered 77 counts) → at ≡ length (lettered 77 counts)
+  pub lines-of-written : (room one two three four : List ℕ) (at behind beyond : ℕ) → one ≡ sets room 0 (lettered letterM counts) → at ≡ length (lettered letterM counts)
       → two ≡ sets one at p → behind ≡ at + length p
       → three ≡ sets two behind t → beyond ≡ behind + length t
       → four ≡ sets three beyond s → four ≡ sets room 0 (linesOf counts points edges marks triangles records volumes)
   unfolding linesOf
   lines-of-written room one two three four at behind beyond e q f r g w h =
-      let a = lettered 77 counts in
+      let a = lettered letterM counts in
       let z : at ≡ 0 + length a = omega arith in
       h ∙ rw (g, w, sets-append two behind t s, f, r, sets-append one at p (t ++ s), e, z) (sets-append room 0 a (p ++ (t ++ s)))
 

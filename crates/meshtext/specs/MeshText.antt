@@ -8,14 +8,18 @@ use lib.ListN.{length}
 use lib.IntN.{ℤ}
 use Rattle.grid.specs.Limits.{mostPoints}
 use Rattle.mesh.specs.Check.{lengthsFit}
-use Rattle.lines.specs.Line.{lettered}
+use Rattle.lines.specs.Line.{longestLine, lettered}
 use Rattle.writing.specs.Writing.{Outcome, outcome, written}
 use Rattle.meshlines.specs.MeshLines.{pointsText, trianglesText, shellsText}
+
+-- the letter `M`
+abbrev pub letterM : ℕ
+letterM = 77
 
 -- the lines of a mesh: `M`: points, triangles, shells; then `V`, `T` and `S`
 unfoldable pub linesOf : List ℕ → List ℕ → List ℕ → List ℕ → List ℕ → List ℕ → List ℤ → List ℕ
 linesOf counts points edges marks triangles records volumes =
-    lettered 77 counts ++
+    lettered letterM counts ++
     (pointsText points edges marks (length marks) ++
     (trianglesText triangles (length triangles / 3) ++ shellsText records volumes (length volumes)))
 
@@ -31,10 +35,9 @@ listsFit points edges marks triangles = lengthsFit points triangles marks && eqb
 unfoldable pub recordsFit : ℕ → ℕ → Bool
 recordsFit records volumes = eqb records (4 * volumes) && leb volumes mostPoints
 
--- so many bytes hold the text of any mesh of so many points, triangles and shells: a letter and its tab take 2, a number and the byte that ends it at most 21, so a line of three
--- numbers (`M`, `T`) at most 65 and one of five (`V`, `S`) at most 107
+-- so many bytes hold the text of any mesh of so many points, triangles and shells: `M` and `T` have three numbers, `V` and `S` five
 abbrev pub longest : ℕ → ℕ → ℕ → ℕ
-longest points triangles shells = 65 + 107 * points + 65 * triangles + 107 * shells
+longest points triangles shells = longestLine 3 + longestLine 5 * points + longestLine 3 * triangles + longestLine 5 * shells
 
 unfoldable pub meshWritten : List ℕ → List ℕ → List ℕ → List ℕ → List ℕ → List ℤ → List ℕ → Outcome
 meshWritten points edges marks triangles records volumes room =

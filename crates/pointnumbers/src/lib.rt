@@ -8,11 +8,12 @@ ghost use Rattle.masks.specs.Masks.{maskAbove};
 
 mod numbers;
 
+use grid::limits::MOST_ROWS;
 use numbers::number_layer;
 use rows::Sides;
 
 // Writes the number of its point at each crossed edge of the work room, and answers how many points there are.
-pub fn number(nx: usize, ny: usize, nz: usize, masks: &[u64; 4096], work: &mut [u32]) -> u32
+pub fn number(nx: usize, ny: usize, nz: usize, masks: &[u64; MOST_ROWS], work: &mut [u32]) -> u32
     requires { ⌜ SidesFit nx ny nz ⌝ }
     requires { ⌜ length (now work) ≡ edgeCount axes (size nx ny nz) ⌝ }
     ensures counted { λ r. ⌜ r ≡ length (pointEdges axes (size nx ny nz) (maskAbove nx (now (masks .entry)))) ⌝ }

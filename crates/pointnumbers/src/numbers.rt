@@ -2,8 +2,10 @@
 ghost use mathlib.Core.Path.{_≡_};
 ghost use Prim.Native.Nat.{_+_, _<_, _≤_};
 ghost use lib.ListN.{length, set};
-ghost use Rattle.rows.specs.Rows.{Ready, firstEdge, mostEdges, nextNumber};
+ghost use Rattle.grid.specs.Limits.{mostEdges};
+ghost use Rattle.rows.specs.Rows.{Ready, firstEdge, nextNumber};
 ghost use Rattle.pointnumbers.specs.Numbers.{SampleNumbered, NumberedTo};
+use grid::limits::MOST_ROWS;
 use rows::Cuts;
 use rows::Sides;
 use rows::busy_word;
@@ -41,7 +43,7 @@ fn number_row(
     y: usize,
     z: usize,
     from: u32,
-    masks: &[u64; 4096],
+    masks: &[u64; MOST_ROWS],
     work: &mut [u32],
 ) -> u32
     requires { ⌜ Ready sides ⌝ }
@@ -67,7 +69,13 @@ fn number_row(
 }
 
 // The points of one layer, row by row.
-pub fn number_layer(sides: Sides, z: usize, from: u32, masks: &[u64; 4096], work: &mut [u32]) -> u32
+pub fn number_layer(
+    sides: Sides,
+    z: usize,
+    from: u32,
+    masks: &[u64; MOST_ROWS],
+    work: &mut [u32],
+) -> u32
     requires { ⌜ Ready sides ⌝ }
     requires { ⌜ z < sides .nz ⌝ }
     requires { ⌜ NumberedTo sides (now masks) (firstEdge sides 0 z) from (now work) ⌝ }

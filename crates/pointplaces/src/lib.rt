@@ -11,6 +11,7 @@ ghost use Rattle.masks.specs.Masks.{maskAbove, Masked};
 
 mod places;
 
+use grid::limits::MOST_ROWS;
 use places::place_layer;
 use rows::Sides;
 
@@ -21,7 +22,7 @@ pub fn place(
     nz: usize,
     grey: u16,
     samples: &[u16],
-    masks: &[u64; 4096],
+    masks: &[u64; MOST_ROWS],
     points: &mut [u32],
     edges: &mut [u32],
     marks: &mut [u8],

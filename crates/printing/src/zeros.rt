@@ -5,6 +5,7 @@ ghost use Prim.Native.Nat.{_+_, _*_};
 ghost use lib.ListN.{length};
 ghost use Rattle.printing.specs.Sizes.{mostSmallPoints, mostSmallTriangles, mostInput, mostOutput};
 use grid::limits::MOST_SMALL;
+use lines::LONGEST_FIELD;
 
 // At most three grid edges leave a sample.
 pub const MOST_SMALL_POINTS: usize = 3 * (MOST_SMALL as usize);
@@ -12,14 +13,21 @@ pub const MOST_SMALL_POINTS: usize = 3 * (MOST_SMALL as usize);
 // A case has at most five triangles, and there are fewer cubes than samples.
 pub const MOST_SMALL_TRIANGLES: usize = 5 * (MOST_SMALL as usize);
 
-// Line 1 takes at most 38 bytes and a sample six; one more byte shows that something follows.
-pub const MOST_INPUT: usize = 38 + 6 * (MOST_SMALL as usize) + 1;
+// A number of the input takes at most five digits and the byte that ends it. Line 1 has six numbers behind its letter and tab; one more byte shows that something follows.
+const LONGEST_SAMPLE: usize = 5 + 1;
+
+pub const MOST_INPUT: usize = 2 + LONGEST_SAMPLE * 6 + LONGEST_SAMPLE * (MOST_SMALL as usize) + 1;
+
+// The longest line of three numbers and of five, behind their letter and tab.
+const LINE_OF_THREE: usize = 2 + LONGEST_FIELD * 3;
+
+const LINE_OF_FIVE: usize = 2 + LONGEST_FIELD * 5;
 
 // The longest text of a mesh with so many points, triangles and shells, of which there are no more than points.
-pub const MOST_OUTPUT: usize = 65
-    + 107 * MOST_SMALL_POINTS
-    + 65 * MOST_SMALL_TRIANGLES
-    + 107 * MOST_SMALL_POINTS;
+pub const MOST_OUTPUT: usize = LINE_OF_THREE
+    + LINE_OF_FIVE * MOST_SMALL_POINTS
+    + LINE_OF_THREE * MOST_SMALL_TRIANGLES
+    + LINE_OF_FIVE * MOST_SMALL_POINTS;
 
 pub fn input() -> [u8; MOST_INPUT]
     ensures { λ r. ⌜ mostInput ≡ length r ⌝ }

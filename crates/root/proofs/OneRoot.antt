@@ -7,7 +7,8 @@ use native.Mathlib.Numerals.{add-one}
 use native.Mathlib.Omega.{arith}
 use lib.Dec.{leb}
 use borrow.Author.Tests.{leb-true, leb-false}
-use Rattle.root.specs.Root.{windowFrom, windowTo, scaled, firstScale, scaleOf, nextRoot, rootBelow, rootOf}
+use Rattle.grid.specs.Limits.{windowTo, windowFrom, rootDigits}
+use Rattle.root.specs.Root.{scaled, firstScale, scaleOf, nextRoot, rootBelow, rootOf}
 use Rattle.root.specs.Promise.{InWindow, WholeRoot, Rooted}
 
 -- one more scaling is four times as much
@@ -48,7 +49,7 @@ found (suc left) at n false e small large =
 pub scale-in-window : (n : ℕ) → 0 < n → n < 2 ^ windowTo → InWindow n (scaleOf n)
 unfolding scaleOf
 scale-in-window n positive small =
-    found 29 0 n (leb (2 ^ windowFrom) n) (ap (λ k. leb (2 ^ windowFrom) k) (mul-one n)) (omega arith) (omega arith)
+    found (windowFrom / 2) 0 n (leb (2 ^ windowFrom) n) (ap (λ k. leb (2 ^ windowFrom) k) (mul-one n)) (omega arith) (omega arith)
 
 four-squares : (r : ℕ) → (2 * r) * (2 * r) ≡ 4 * (r * r)
 four-squares r = omega (arith, mul-assoc 2 r (2 * r), mul-left-comm r 2 r)
@@ -73,13 +74,13 @@ pub root-of : (n : ℕ) → 0 < n → n < 2 ^ windowTo → Rooted n (scaleOf n) 
 unfolding rootOf
 root-of n positive small =
     let w = scale-in-window n positive small in
-    record { window = w; root = root-below 30 (scaled n (scaleOf n)) (omega (arith, w .most)) }
+    record { window = w; root = root-below rootDigits (scaled n (scaleOf n)) (omega (arith, w .most)) }
 
 pub is-root-of : (n s r : ℕ) → 0 < n → n < 2 ^ windowTo → Rooted n s r → (s ≡ scaleOf n) × (r ≡ rootOf n)
 is-root-of n s r positive small h = one-root n s (scaleOf n) r (rootOf n) h (root-of n positive small)
 
--- and the root has 30 digits
-pub root-most : (n s r : ℕ) → Rooted n s r → r < 2 ^ 30
+-- and the root has so many digits
+pub root-most : (n s r : ℕ) → Rooted n s r → r < 2 ^ rootDigits
 root-most n s r h =
     lt-of-not-le
-    (λ large. absurd (omega (arith, mul-le-mul {n₁ = 2 ^ 30} {m₁ = 2 ^ 30} {n₂ = r} {m₂ = r} large large, h .root .not-above, h .window .most)))
+    (λ large. absurd (omega (arith, mul-le-mul {n₁ = 2 ^ rootDigits} {m₁ = 2 ^ rootDigits} {n₂ = r} {m₂ = r} large large, h .root .not-above, h .window .most)))

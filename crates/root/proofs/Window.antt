@@ -5,7 +5,9 @@ use native.Mathlib.Nat.{pow-suc, mul-le-mul-right, lt-of-lt-of-le, lt-of-not-le,
 use native.Mathlib.Omega.{arith}
 use lib.Count.{leadingZeros, leading-top}
 use lib.Pow.{pow-add, pow-mono, shl-lt}
-use Rattle.root.specs.Root.{windowFrom, windowTo, scaled}
+use Rattle.laws.specs.Bits.{wordBits}
+use Rattle.grid.specs.Limits.{windowTo, windowFrom, rootDigits}
+use Rattle.root.specs.Root.{scaled}
 use Rattle.root.specs.Promise.{InWindow}
 
 pub four-power : (s : ℕ) → 4 ^ s ≡ 2 ^ (2 * s)
@@ -29,22 +31,22 @@ zeros-least : (n j : ℕ) → 2 ^ j ≤ n → n < 2 ^ windowTo → j < windowTo
 zeros-least n j low small = lt-of-not-le (λ h. absurd (omega (arith, pow-mono h)))
 
 module _ (n : ℕ) (positive : 0 < n) (small : n < 2 ^ windowTo) where
-  pub zeros-left : 4 ≤ leadingZeros 64 n
+  pub zeros-left : wordBits - windowTo ≤ leadingZeros wordBits n
   zeros-left =
-      let t = leading-top 64 n positive (omega arith) in
+      let t = leading-top wordBits n positive (omega arith) in
       omega (arith, t .1, zeros-least n (t .0) (t .2) small)
 
-  pub zeros-scale : InWindow n ((leadingZeros 64 n - 4) / 2)
+  pub zeros-scale : InWindow n ((leadingZeros wordBits n - (wordBits - windowTo)) / 2)
   zeros-scale =
-      let t = leading-top 64 n positive (omega arith) in
+      let t = leading-top wordBits n positive (omega arith) in
       let z = zeros-left in
-      in-window n (t .0) ((leadingZeros 64 n - 4) / 2) (t .2) (t .3) (omega (arith, t .1, z)) (omega (arith, t .1, z))
+      in-window n (t .0) ((leadingZeros wordBits n - (wordBits - windowTo)) / 2) (t .2) (t .3) (omega (arith, t .1, z)) (omega (arith, t .1, z))
 
 -- no number needs more
-pub scale-most : (n s : ℕ) → 0 < n → InWindow n s → s < 30
+pub scale-most : (n s : ℕ) → 0 < n → InWindow n s → s < rootDigits
 scale-most n s positive h =
     lt-of-not-le
-    (λ large. absurd (omega (arith, pow-le-pow-right {n = 4} (omega arith) {i = 30} {j = s} large, mul-le-mul-right {m = 1} {n = n} (4 ^ s) positive, h .most)))
+    (λ large. absurd (omega (arith, pow-le-pow-right {n = 4} (omega arith) {i = rootDigits} {j = s} large, mul-le-mul-right {m = 1} {n = n} (4 ^ s) positive, h .most)))
 
 -- the shift by 2s is the scaling
 pub shifted : (n s : ℕ) → InWindow n s → (n * 2 ^ (2 * s)) % 2 ^ 64 ≡ scaled n s

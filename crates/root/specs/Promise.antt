@@ -1,6 +1,7 @@
 -- What is promised of s and r, by the facts that document 01 names.
 use Prim.Native.Nat.{ℕ, _+_, _*_, _^_, _≤_, _<_}
-use Rattle.root.specs.Root.{windowFrom, windowTo, scaled}
+use Rattle.grid.specs.Limits.{windowTo, windowFrom}
+use Rattle.root.specs.Root.{scaled}
 
 -- s brings n into the window
 pub record InWindow (n s : ℕ) : Type 0 where

@@ -2,25 +2,19 @@
 use mathlib.Core.Bool.{Bool, true, false, cond}
 use Prim.Native.Nat.{ℕ, zero, suc, _+_, _*_, _/_, _^_}
 use lib.Dec.{leb}
-
--- the window's two ends, as powers of two: from 2^58 up to, and not reaching, 2^60
-abbrev pub windowFrom : ℕ
-windowFrom = 58
-
-abbrev pub windowTo : ℕ
-windowTo = 60
+use Rattle.grid.specs.Limits.{windowFrom, rootDigits}
 
 -- N·4^s
 abbrev pub scaled : ℕ → ℕ → ℕ
 scaled n s = n * 4 ^ s
 
--- the first s from `at` on that brings n to 2^58 or above, of as many as are left; b says whether `at` itself does
+-- the first s from `at` on that brings n to the window or above it, of as many as are left; b says whether `at` itself does
 unfoldable pub firstScale : ℕ → Bool → ℕ → ℕ → ℕ
 firstScale zero b at n = at
 firstScale (suc left) true at n = at
 firstScale (suc left) false at n = firstScale left (leb (2 ^ windowFrom) (scaled n (at + 1))) (at + 1) n
 
--- s, of a number of at least 1: 2^58 is 4^29
+-- s, of a number of at least 1: the window begins at a power of four
 unfoldable pub scaleOf : ℕ → ℕ
 unfolding firstScale
 scaleOf n = firstScale (windowFrom / 2) (leb (2 ^ windowFrom) n) 0 n
@@ -35,7 +29,7 @@ unfolding nextRoot
 rootBelow zero m = 0
 rootBelow (suc k) m = nextRoot m (rootBelow k (m / 4))
 
--- r: the whole root of N·4^s, which is below 4^30
+-- r: the whole root of N·4^s, which is below the window's end, a power of four too
 unfoldable pub rootOf : ℕ → ℕ
 unfolding scaleOf rootBelow
-rootOf n = rootBelow (windowTo / 2) (scaled n (scaleOf n))
+rootOf n = rootBelow rootDigits (scaled n (scaleOf n))

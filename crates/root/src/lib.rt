@@ -1,10 +1,9 @@
 // The scaled whole root of a whole number.
 ghost use Prim.Native.Nat.{_^_, _<_};
-ghost use Rattle.root.specs.Root.{windowTo};
+ghost use Rattle.grid.specs.Limits.{windowTo};
 ghost use Rattle.root.specs.Promise.{InWindow, WholeRoot, Rooted};
-
-// From 2^58 up to, and not reaching, 2^60.
-const WINDOW_TO: u32 = 60;
+use grid::limits::WINDOW_TO;
+use laws::WORD_BITS;
 
 // About the root of the window's middle.
 const MIDDLE: u64 = 759_250_125;
@@ -20,7 +19,7 @@ fn scale_of(n: u64) -> u32
     requires { ⌜ (0 < n) × (n < 2 ^ windowTo) ⌝ }
     ensures { λ r. ⌜ InWindow n r ⌝ }
 {
-    (u64::leading_zeros(n) - (64 - WINDOW_TO)) / 2
+    (u64::leading_zeros(n) - (WORD_BITS - WINDOW_TO)) / 2
 }
 
 // The whole root of m by Newton's steps: the first goes from the window's middle, which leaves an error of a sixteenth at
@@ -36,7 +35,7 @@ fn whole_root(m: u64) -> u64
     r
 }
 
-// The scaling and the root of a number from 1 to below 2^60.
+// The scaling and the root of a number from 1 to below the window's end.
 pub fn root(n: u64) -> Scaled
     requires { ⌜ (0 < n) × (n < 2 ^ windowTo) ⌝ }
     ensures { λ r. ⌜ Rooted n (r .scale) (r .root) ⌝ }

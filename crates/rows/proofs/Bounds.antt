@@ -3,28 +3,29 @@ use mathlib.Core.Path.{_≡_}
 use Prim.Native.Nat.{ℕ, _+_, _*_, _<_, _≤_}
 use native.Mathlib.Nat.{mul-le-mul, mul-add, mul-one, mul-zero, add-zero, zero-add}
 use native.Mathlib.Omega.{arith}
+use Rattle.grid.specs.Limits.{mostSide, mostRows, mostSamples, mostEdges}
 use Rattle.grid.specs.Grid.{axes, sampleCount, edgeCount}
 use Rattle.grid.specs.Work.{SidesFit}
 use Rattle.laws.proofs.Digits.{low-lt}
 use Rattle.rows.specs.declared.Sides.{Sides}
-use Rattle.rows.specs.Rows.{sizeOf, firstEdge, mostEdges}
+use Rattle.rows.specs.Rows.{sizeOf, firstEdge}
 
 -- a row of a grid, and the rows behind it and over it
-module _ (ny nz : ℕ) (most-y : ny ≤ 64) (most-z : nz ≤ 64) (y z : ℕ) where
-  pub row-small : y < ny → z < nz → y + ny * z < 4096
+module _ (ny nz : ℕ) (most-y : ny ≤ mostSide) (most-z : nz ≤ mostSide) (y z : ℕ) where
+  pub row-small : y < ny → z < nz → y + ny * z < mostRows
   row-small hy hz = omega (arith, low-lt y ny z nz hy hz, mul-le-mul most-y most-z)
 
-  pub behind-small : y + 1 < ny → z < nz → y + ny * z + 1 < 4096
+  pub behind-small : y + 1 < ny → z < nz → y + ny * z + 1 < mostRows
   behind-small hy hz = omega (arith, low-lt (y + 1) ny z nz hy hz, mul-le-mul most-y most-z)
 
-  pub over-small : y < ny → z + 1 < nz → y + ny * z + ny < 4096
+  pub over-small : y < ny → z + 1 < nz → y + ny * z + ny < mostRows
   over-small hy hz = omega (arith, low-lt y ny (z + 1) nz hy hz, mul-le-mul most-y most-z, mul-add ny z 1, mul-one ny)
 
 -- the samples and the edges of a grid
 module _ (sides : Sides) (fit : SidesFit (sides .nx) (sides .ny) (sides .nz)) where
-  pub samples-few : sampleCount (sizeOf sides) ≤ 64 * 4096
+  pub samples-few : sampleCount (sizeOf sides) ≤ mostSamples
   samples-few =
-      let rows : sides .ny * sides .nz ≤ 64 * 64 = mul-le-mul (fit .most-y) (fit .most-z) in
+      let rows : sides .ny * sides .nz ≤ mostRows = mul-le-mul (fit .most-y) (fit .most-z) in
       mul-le-mul (fit .most-x) rows
 
   pub edges-few : edgeCount axes (sizeOf sides) ≤ mostEdges

@@ -8,7 +8,7 @@ use lib.Bits.{bitAnd, bitOr, bitXor}
 use lib.Count.{trailingZeros}
 use lib.Dec.{ltb}
 use borrow.Author.Tests.{ltb-true, lt-ltb}
-use Rattle.laws.specs.Bits.{bit, halved}
+use Rattle.laws.specs.Bits.{wordBits, bit, halved}
 use Rattle.laws.proofs.Words.{bit-and, bit-or, bit-xor, bit-half, lowest-small}
 use Rattle.laws.proofs.Tests.{both, neither, alike}
 use Rattle.laws.proofs.Scan.{scan-quiet, scan-found, scan-done, scan-next}
@@ -58,10 +58,10 @@ halved-small n (suc i) = omega (arith, halved-small n i)
 -- The walk of a row comes from sample x to its next busy sample. b has the bits of the samples from x on, and as many zeros as samples are
 -- skipped: their edges are not crossed.
 pub record Found (sides : Sides) (masks : List ℕ) (y z word x b : ℕ) : Type 0 where
-  pub small : trailingZeros 64 b < 64
-  pub there : x + trailingZeros 64 b < sides .nx
-  pub uncut : (i : ℕ) → i < 3 * trailingZeros 64 b → crossed axes (sizeOf sides) (maskAbove (sides .nx) masks) (firstEdge sides y z + 3 * x + i) ≡ false
-  pub left : b / 2 ^ trailingZeros 64 b / 2 ≡ halved word (x + trailingZeros 64 b + 1)
+  pub small : trailingZeros wordBits b < wordBits
+  pub there : x + trailingZeros wordBits b < sides .nx
+  pub uncut : (i : ℕ) → i < 3 * trailingZeros wordBits b → crossed axes (sizeOf sides) (maskAbove (sides .nx) masks) (firstEdge sides y z + 3 * x + i) ≡ false
+  pub left : b / 2 ^ trailingZeros wordBits b / 2 ≡ halved word (x + trailingZeros wordBits b + 1)
 
 module _ (sides : Sides) (ready : Ready sides) (masks : List ℕ) (y z : ℕ) (hy : y < sides .ny) (hz : z < sides .nz) (row : Row)
     (from : RowFrom (sides .ny) (sides .nz) masks y z 0 row) (word : ℕ) (by : BusySamples (sides .full) row word) where
@@ -108,21 +108,21 @@ module _ (sides : Sides) (ready : Ready sides) (masks : List ℕ) (y z : ℕ) (h
   -- where the word has no bit left, and where it has one
   module _ (x b : ℕ) (is : b ≡ halved word x) where
     pub rest-uncut : x ≤ sides .nx → b ≡ 0 → (i : ℕ) → i < 3 * (sides .nx - x) → cut (firstEdge sides y z + 3 * x + i) ≡ false
-    rest-uncut h none = run-uncut x (sides .nx - x) (omega arith) (λ i l u. scan-done 64 word x (sym is ∙ none) i l)
+    rest-uncut h none = run-uncut x (sides .nx - x) (omega arith) (λ i l u. scan-done wordBits word x (sym is ∙ none) i l)
 
     abbrev skip : ℕ
-    skip = trailingZeros 64 b
+    skip = trailingZeros wordBits b
 
     pub found : word < 2 ^ 64 → (b ≡ 0 → ⊥) → Found sides masks y z word x b
     found fits some =
         let fewer : b < 2 ^ 64 = omega (arith, halved-small word x) in
         let set : bit word (x + skip) ≡ true
-        = ap (λ b. bit word (x + trailingZeros 64 b)) is ∙ scan-found 64 word x (rw is at fewer) (rw is at some) in
+        = ap (λ b. bit word (x + trailingZeros wordBits b)) is ∙ scan-found wordBits word x (rw is at fewer) (rw is at some) in
         let there : x + skip < sides .nx = ltb-true _ _ (sym (ready .full (x + skip)) ∙ by .within (x + skip) set) in
         record {
-          small = lowest-small 64 b fewer some;
+          small = lowest-small wordBits b fewer some;
           there = there;
-          uncut = run-uncut x skip (omega arith) (λ i l u. scan-quiet 64 word x i l (rw is at u));
+          uncut = run-uncut x skip (omega arith) (λ i l u. scan-quiet wordBits word x i l (rw is at u));
           left =
-              ap (λ m. m / 2 ^ skip / 2) is ∙ scan-next 64 word x skip;
+              ap (λ m. m / 2 ^ skip / 2) is ∙ scan-next wordBits word x skip;
         }

@@ -7,7 +7,6 @@ use lib.Dec.{eqb, ltb}
 use lib.ListN.{getD}
 use Rattle.laws.specs.Bits.{bit, halved}
 use Rattle.laws.specs.Range.{one-if}
-use Rattle.grid.specs.Limits.{mostSide}
 use Rattle.grid.specs.Grid.{Size}
 use Rattle.grid.specs.Work.{size, SidesFit}
 use Rattle.masks.specs.Masks.{AllSet}
@@ -63,10 +62,6 @@ pub record Parted (more : Bool) (row : Row) (cuts : Cuts) : Type 0 where
 -- the row with its first x samples passed
 abbrev pub halvedBy : Row → ℕ → Row
 halvedBy row x = record { here = row .here / 2 ^ x; behind = row .behind / 2 ^ x; over = row .over / 2 ^ x }
-
--- no grid has more edges
-abbrev pub mostEdges : ℕ
-mostEdges = 3 * (mostSide * (mostSide * mostSide))
 
 -- the next number past an edge, which counts where the edge is crossed
 abbrev pub nextNumber : Bool → ℕ → ℕ

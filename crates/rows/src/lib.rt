@@ -3,8 +3,11 @@ ghost use mathlib.Core.Path.{_≡_};
 ghost use mathlib.Core.Bool.{true, cond, _&&_};
 ghost use Prim.Native.Nat.{_+_, _*_, _<_};
 ghost use lib.ListN.{getD};
+ghost use Rattle.laws.specs.Bits.{wordBits};
+ghost use Rattle.grid.specs.Limits.{mostRows};
 ghost use Rattle.grid.specs.Work.{SidesFit};
 ghost use Rattle.rows.specs.Rows.{RowFrom, BusySamples, lowestDiffer, Parted, halvedBy};
+use grid::limits::MOST_ROWS;
 
 // The sides of a grid, and the mask of a row whose samples are all above.
 pub struct Sides {
@@ -30,15 +33,15 @@ pub struct Cuts {
 }
 
 // The mask of a neighbouring row, or the row's own where the grid ends.
-fn neighbour(there: bool, row: usize, here: u64, masks: &[u64; 4096]) -> u64
-    requires { ⌜ (there ≡ true → row < 4096) ⌝ }
+fn neighbour(there: bool, row: usize, here: u64, masks: &[u64; MOST_ROWS]) -> u64
+    requires { ⌜ (there ≡ true → row < mostRows) ⌝ }
     ensures { λ r. ⌜ r ≡ cond there (getD (now (masks .entry)) row 0) here ⌝ }
 {
     if there { masks[row] } else { here }
 }
 
 // The masks for the row at y, z, before its first sample.
-pub fn row_at(sides: Sides, y: usize, z: usize, masks: &[u64; 4096]) -> Row
+pub fn row_at(sides: Sides, y: usize, z: usize, masks: &[u64; MOST_ROWS]) -> Row
     requires { ⌜ SidesFit (sides .nx) (sides .ny) (sides .nz) ⌝ }
     requires { ⌜ y < sides .ny ⌝ }
     requires { ⌜ z < sides .nz ⌝ }
@@ -83,7 +86,7 @@ pub fn cuts_at(more: bool, row: Row) -> Cuts
 
 // The row with its first x samples passed.
 pub fn passed(row: Row, x: usize) -> Row
-    requires { ⌜ x < 64 ⌝ }
+    requires { ⌜ x < wordBits ⌝ }
     ensures { λ r. ⌜ r ≡ halvedBy row x ⌝ }
 {
     Row {

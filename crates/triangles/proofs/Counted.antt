@@ -10,11 +10,12 @@ use Rattle.laws.proofs.Ranges.{sum-next, sum-most}
 use Rattle.cube.specs.Answer.{count, triangles}
 use Rattle.grid.specs.Mesh.{gridEdge, caseAt, cubeTriangles, edgeMesh}
 use Rattle.grid.specs.Work.{size}
+use Rattle.grid.specs.Limits.{mostSide}
 use Rattle.masks.specs.Masks.{maskAbove}
 use Rattle.triangles.specs.Row.{masksAt, rowCase, rowCount, layerCount}
 use Rattle.laws.proofs.Box.{sumBox, sum-box-cong, length-box}
 use Rattle.triangles.proofs.Cases.{case-of-masks}
-use Rattle.triangles.proofs.Steps.{layer-count-most}
+use Rattle.triangles.proofs.Steps.{mostInLayer, layer-count-most}
 
 -- how many triangles the first layers have
 pub gridCount : ℕ → ℕ → ℕ → List ℕ → ℕ
@@ -29,10 +30,10 @@ module _ (nx ny : ℕ) (masks : List ℕ) where
   unfolding gridCount
   grid-count-next z = sum-next z (λ z. layerCount nx ny (ny - 1) masks (ny * z))
 
-  pub grid-count-most : (layers : ℕ) → nx ≤ 64 → ny ≤ 64 → gridCount nx ny layers masks ≤ 19845 * layers
+  pub grid-count-most : (layers : ℕ) → nx ≤ mostSide → ny ≤ mostSide → gridCount nx ny layers masks ≤ mostInLayer * layers
   unfolding gridCount
   grid-count-most layers h k =
-      sum-most 19845 layers (λ z. layerCount nx ny (ny - 1) masks (ny * z))
+      sum-most mostInLayer layers (λ z. layerCount nx ny (ny - 1) masks (ny * z))
       (λ z l. omega (arith, layer-count-most nx ny masks (ny * z) (ny - 1) h))
 
   -- cube by cube, the case that the masks give is the grid's

@@ -6,7 +6,7 @@ use native.Mathlib.Nat.{div-le-self}
 use native.Mathlib.Omega.{arith}
 use borrow.Author.Tests.{ltb-true, lt-ltb}
 use lib.Count.{trailingZeros}
-use Rattle.laws.specs.Bits.{bit, halved}
+use Rattle.laws.specs.Bits.{wordBits, bit, halved}
 use Rattle.laws.proofs.Words.{lowest-small}
 use Rattle.laws.proofs.Scan.{scan-quiet, scan-found, scan-done, scan-next}
 use Rattle.cube.specs.Answer.{count}
@@ -29,7 +29,7 @@ passed-none row cubes b h = record { within = omega arith; masks = masks-first r
 
 -- the next busy cube is k on from cube x: no cube between has a triangle, and from there the walk goes on to the cube after it
 pub record Found (row : RowMasks) (cubes b : ℕ) (rest : RowMasks) (busy x k : ℕ) : Type 0 where
-  pub small : k < 64
+  pub small : k < wordBits
   pub inside : x + k < cubes
   pub quiet : (i : ℕ) → x ≤ i → i < x + k → count (rowCase row i) ≡ 0
   pub masks : masksPast rest k ≡ masksFrom row (x + k)
@@ -47,27 +47,27 @@ module _ (row : RowMasks) (cubes full b : ℕ) (ones : AllSet (cubes + 1) full) 
   module _ (rest : RowMasks) (busy x : ℕ) (p : Passed row cubes b rest busy x) where
     -- where no bit is left, no cube from x on has a triangle
     pub quiet-after : busy ≡ 0 → (i : ℕ) → x ≤ i → i < cubes → count (rowCase row i) ≡ 0
-    quiet-after z i h l = quiet-at i (scan-done 64 b x (sym (p .word) ∙ z) i h) l
+    quiet-after z i h l = quiet-at i (scan-done wordBits b x (sym (p .word) ∙ z) i h) l
 
     -- else the lowest bit is the next busy cube
-    pub found : (busy ≡ 0 → ⊥) → Found row cubes b rest busy x (trailingZeros 64 busy)
+    pub found : (busy ≡ 0 → ⊥) → Found row cubes b rest busy x (trailingZeros wordBits busy)
     found some =
-        let k : ℕ = trailingZeros 64 busy in
-        let set : bit b (x + k) ≡ true = rw (p .word) (scan-found 64 b x (rw (p .word) at (p .fits)) (λ z. some (p .word ∙ z))) in
+        let k : ℕ = trailingZeros wordBits busy in
+        let set : bit b (x + k) ≡ true = rw (p .word) (scan-found wordBits b x (rw (p .word) at (p .fits)) (λ z. some (p .word ∙ z))) in
         let here : x + k < cubes = inside-at (x + k) set in
         let past : masksPast rest k ≡ masksFrom row (x + k) = ap (λ m. masksPast m k) (p .masks) ∙ masks-past row x k in
         let less : busy / 2 ^ k / 2 < busy = omega (arith, div-le-self busy (2 ^ k)) in
         record {
-          small = lowest-small 64 busy (p .fits) some;
+          small = lowest-small wordBits busy (p .fits) some;
           inside = here;
-          quiet = λ i h l. quiet-at i (scan-quiet 64 b x i h (rw (p .word) at l)) (omega arith);
+          quiet = λ i h l. quiet-at i (scan-quiet wordBits b x i h (rw (p .word) at l)) (omega arith);
           masks = past;
           falls = less;
           next = λ there on e f.
               record {
                 within = omega arith;
                 masks = f ∙ ap masksAfter (e ∙ past) ∙ masks-next row (x + k);
-                word = ap (λ n. n / 2 ^ k / 2) (p .word) ∙ scan-next 64 b x k;
+                word = ap (λ n. n / 2 ^ k / 2) (p .word) ∙ scan-next wordBits b x k;
                 fits = omega (arith, p .fits);
               };
         }

@@ -10,15 +10,24 @@ use Rattle.laws.specs.Bits.{halved}
 use Rattle.laws.proofs.Ranges.{sum-next, sum-quiet, sum-most}
 use Rattle.laws.proofs.Halves.{halved-next}
 use Rattle.laws.proofs.Words.{halved-more}
-use Rattle.cube.specs.Answer.{count, countTable}
+use Rattle.cube.specs.Answer.{mostCaseTriangles, count, countTable}
+use Rattle.cube.specs.Cube.{cases}
 use Rattle.cube.proofs.Places.{count-at}
 use Rattle.grid.specs.Work.{SidesFit}
+use Rattle.grid.specs.Limits.{mostSide}
 use Rattle.triangles.specs.declared.RowMasks.{RowMasks}
 use Rattle.triangles.specs.declared.Layer.{Layer}
 use Rattle.triangles.specs.Row.{masksAt, masksAfter, masksPast, masksFrom, firstCase, rowCase, rowCount, layerCount}
 use Rattle.masks.specs.Masks.{AllSet}
 use Rattle.triangles.specs.Walk.{LayerFits}
 use Rattle.triangles.proofs.Cases.{row-case-small, count-most}
+
+-- no row of cubes has more triangles, and no layer
+abbrev pub mostInRow : ℕ
+mostInRow = mostCaseTriangles * (mostSide - 1)
+
+abbrev pub mostInLayer : ℕ
+mostInLayer = mostInRow * (mostSide - 1)
 
 -- each layer of cubes has its two layers of samples among the masks
 pub layer-fits : (nx ny nz z : ℕ) (l : Layer) → SidesFit nx ny nz → AllSet nx (l .full) → z + 1 < nz → l .nx ≡ nx → l .ny ≡ ny → l .first ≡ ny * z → LayerFits l
@@ -28,7 +37,7 @@ layer-fits nx ny nz z l s a h p q r =
       most-x = omega (arith, s .most-x);
       least-y = omega (arith, s .least-y);
       most-y = omega (arith, s .most-y);
-      rows = omega (arith, mul-add ny z 2, mul-le-mul-left {m = z + 2} {n = 64} ny (omega arith));
+      rows = omega (arith, mul-add ny z 2, mul-le-mul-left {m = z + 2} {n = mostSide} ny (omega arith));
       above = rw p a;
     }
 
@@ -52,7 +61,7 @@ pub case-held : (m rest : RowMasks) (x k : ℕ) → rest ≡ masksFrom m x → k
 unfolding rowCase
 case-held m rest x k held read = read ∙ ap firstCase held
 
-pub count-read : (counts : List ℕ) (k : ℕ) → counts ≡ countTable → k < 256 → getD counts k 0 ≡ count k
+pub count-read : (counts : List ℕ) (k : ℕ) → counts ≡ countTable → k < cases → getD counts k 0 ≡ count k
 count-read counts k e h = rw e (count-at k h)
 
 -- the count along a row
@@ -65,9 +74,9 @@ module _ (m : RowMasks) where
   unfolding rowCount
   row-count-next x = sum-next x (λ x. count (rowCase m x))
 
-  pub row-count-most : (cubes : ℕ) → rowCount cubes m ≤ 5 * cubes
+  pub row-count-most : (cubes : ℕ) → rowCount cubes m ≤ mostCaseTriangles * cubes
   unfolding rowCount
-  row-count-most cubes = sum-most 5 cubes (λ x. count (rowCase m x)) (λ x l. count-most (rowCase m x) (row-case-small m x))
+  row-count-most cubes = sum-most mostCaseTriangles cubes (λ x. count (rowCase m x)) (λ x l. count-most (rowCase m x) (row-case-small m x))
 
   pub row-count-quiet : (x y : ℕ) → x ≤ y → ((i : ℕ) → x ≤ i → i < y → count (rowCase m i) ≡ 0) → rowCount y m ≡ rowCount x m
   unfolding rowCount
@@ -83,8 +92,8 @@ module _ (nx ny : ℕ) (masks : List ℕ) (first : ℕ) where
   unfolding layerCount
   layer-count-next y = sum-next y (λ y. rowCount (nx - 1) (masksAt masks ny (first + y)))
 
-  pub layer-count-most : (rows : ℕ) → nx ≤ 64 → layerCount nx ny rows masks first ≤ 315 * rows
+  pub layer-count-most : (rows : ℕ) → nx ≤ mostSide → layerCount nx ny rows masks first ≤ mostInRow * rows
   unfolding layerCount
   layer-count-most rows h =
-      sum-most 315 rows (λ y. rowCount (nx - 1) (masksAt masks ny (first + y)))
+      sum-most mostInRow rows (λ y. rowCount (nx - 1) (masksAt masks ny (first + y)))
       (λ y l. omega (arith, row-count-most (masksAt masks ny (first + y)) (nx - 1)))

@@ -6,8 +6,9 @@ use Prim.Native.Nat.{ℕ, _+_, _*_, _-_, _<_, _≤_}
 use lib.ListN.{length, getD}
 use lib.Seq.{sets}
 use Rattle.laws.specs.Bits.{bit}
+use Rattle.cube.specs.Cube.{cases}
 use Rattle.cube.specs.Answer.{count}
-use Rattle.grid.specs.Limits.{leastSide, mostSide}
+use Rattle.grid.specs.Limits.{leastSide, mostSide, mostRows}
 use Rattle.masks.specs.Masks.{AllSet}
 use Rattle.triangles.specs.declared.RowMasks.{RowMasks}
 use Rattle.triangles.specs.declared.Layer.{Layer}
@@ -18,19 +19,19 @@ pub record BusyCubes (row : RowMasks) (full busy : ℕ) : Type 0 where
   pub inside : (x : ℕ) → bit busy x ≡ true → bit full (x + 1) ≡ true
   pub quiet : (x : ℕ) → bit busy x ≡ false → bit full (x + 1) ≡ true → count (rowCase row x) ≡ 0
 
--- a layer's sides are within the limits, its rows of samples and those of the next layer are among the 4096 masks, and its mask of a row that is all
+-- a layer's sides are within the limits, its rows of samples and those of the next layer are among the masks, and its mask of a row that is all
 -- above is one
 pub record LayerFits (l : Layer) : Type 0 where
   pub least-x : leastSide ≤ l .nx
   pub most-x : l .nx ≤ mostSide
   pub least-y : leastSide ≤ l .ny
   pub most-y : l .ny ≤ mostSide
-  pub rows : l .first + 2 * l .ny ≤ 4096
+  pub rows : l .first + 2 * l .ny ≤ mostRows
   pub above : AllSet (l .nx) (l .full)
 
 -- To write, every edge of every cube has to be in `work`, and the room has to hold the numbers from `at` on.
 pub record CubeRoom (offsets work room : List ℕ) (case many edge at : ℕ) : Type 0 where
-  pub small : case < 256
+  pub small : case < cases
   pub corners : many ≡ 3 * count case
   pub edges : (e : ℕ) → e < 12 → edge + getD offsets e 0 < length work
   pub numbers : at + many ≤ length room

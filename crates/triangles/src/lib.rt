@@ -4,15 +4,21 @@ ghost use mathlib.Core.List.{map};
 ghost use Prim.Native.Nat.{_+_, _*_, _-_, _≤_, _<_};
 ghost use lib.ListN.{length};
 ghost use lib.Seq.{sets};
+ghost use Rattle.laws.specs.Bits.{wordBits};
 ghost use Rattle.laws.specs.Room.{laid};
 ghost use Rattle.laws.specs.Mesh.{flat};
 ghost use Rattle.cube.specs.Cube.{cubeEdges};
 ghost use Rattle.cube.specs.Promise.{Rows, Counts};
+ghost use Rattle.grid.specs.Limits.{mostSide, mostRows};
 ghost use Rattle.grid.specs.Mesh.{edgeMesh, mesh};
 ghost use Rattle.grid.specs.Work.{size, SidesFit, Numbered};
 ghost use Rattle.masks.specs.Masks.{maskAbove, AllSet};
 ghost use Rattle.triangles.specs.Row.{masksAt, masksAfter, masksPast, firstCase, rowCount, layerCount, edgeOffset, cubeNumbers, rowNumbers, layerNumbers};
 ghost use Rattle.triangles.specs.Walk.{BusyCubes, LayerFits, CubeRoom, RowRoom, LayerRoom, Written};
+use cube::CASE_LENGTH;
+use cube::CASES;
+use cube::TABLE;
+use grid::limits::MOST_ROWS;
 
 // The masks of the four rows of samples around a row of cubes: the row at the cubes' y and z, and those one on along y, along z and along both.
 struct RowMasks {
@@ -35,7 +41,7 @@ impl RowMasks {
     fn case(self) -> usize
         ensures { λ r. ⌜ r ≡ firstCase self ⌝ }
     {
-        (self.m00 % 4 + 4 * (self.m10 % 4) + 16 * (self.m01 % 4) + 64 * (self.m11 % 4)) as usize
+        (self.m00 % 4 + 4 * (self.m10 % 4 + 4 * (self.m01 % 4 + 4 * (self.m11 % 4)))) as usize
     }
 
     // On by one sample.
@@ -52,7 +58,7 @@ impl RowMasks {
 
     // On by some samples.
     fn after(self, skip: u32) -> RowMasks
-        requires { ⌜ skip < 64 ⌝ }
+        requires { ⌜ skip < wordBits ⌝ }
         ensures { λ r. ⌜ r ≡ masksPast self skip ⌝ }
     {
         RowMasks {
@@ -74,8 +80,8 @@ impl RowMasks {
 }
 
 // The masks around the row of cubes whose first corners are sample row r.
-fn masks_at(masks: &[u64; 4096], ny: usize, r: usize) -> RowMasks
-    requires { ⌜ r + ny + 1 < 4096 ⌝ }
+fn masks_at(masks: &[u64; MOST_ROWS], ny: usize, r: usize) -> RowMasks
+    requires { ⌜ r + ny + 1 < mostRows ⌝ }
     ensures { λ m. ⌜ m ≡ masksAt (now (masks .entry)) ny r ⌝ }
 {
     RowMasks {
@@ -87,9 +93,9 @@ fn masks_at(masks: &[u64; 4096], ny: usize, r: usize) -> RowMasks
 }
 
 // How many triangles a row of cubes has.
-fn count_row(counts: &[u8; 256], row: RowMasks, cubes: usize, full: u64) -> u32
+fn count_row(counts: &[u8; CASES], row: RowMasks, cubes: usize, full: u64) -> u32
     requires { ⌜ Counts (now counts) ⌝ }
-    requires { ⌜ cubes < 64 ⌝ }
+    requires { ⌜ cubes < wordBits ⌝ }
     requires { ⌜ AllSet (cubes + 1) full ⌝ }
     ensures { λ r. ⌜ r ≡ rowCount cubes row ⌝ }
 {
@@ -108,7 +114,7 @@ fn count_row(counts: &[u8; 256], row: RowMasks, cubes: usize, full: u64) -> u32
 }
 
 // How many triangles a layer of cubes has.
-fn count_layer(counts: &[u8; 256], masks: &[u64; 4096], layer: Layer) -> u32
+fn count_layer(counts: &[u8; CASES], masks: &[u64; MOST_ROWS], layer: Layer) -> u32
     requires { ⌜ Counts (now counts) ⌝ }
     requires { ⌜ LayerFits layer ⌝ }
     ensures { λ r. ⌜ r ≡ layerCount (layer .nx) (layer .ny) (layer .ny - 1) (now (masks .entry)) (layer .first) ⌝ }
@@ -123,7 +129,7 @@ fn count_layer(counts: &[u8; 256], masks: &[u64; 4096], layer: Layer) -> u32
 }
 
 // How many triangles the grid has.
-pub fn count(nx: usize, ny: usize, nz: usize, masks: &[u64; 4096]) -> u32
+pub fn count(nx: usize, ny: usize, nz: usize, masks: &[u64; MOST_ROWS]) -> u32
     requires { ⌜ SidesFit nx ny nz ⌝ }
     ensures { λ r. ⌜ r ≡ length (edgeMesh (size nx ny nz) (maskAbove nx (now (masks .entry)))) ⌝ }
 {
@@ -147,7 +153,7 @@ pub fn count(nx: usize, ny: usize, nz: usize, masks: &[u64; 4096]) -> u32
 
 // How far the grid edge of each cube edge is from the first grid edge of the cube's first corner.
 fn edge_offsets(nx: usize, ny: usize) -> [usize; 12]
-    requires { ⌜ (nx ≤ 64) × (ny ≤ 64) ⌝ }
+    requires { ⌜ (nx ≤ mostSide) × (ny ≤ mostSide) ⌝ }
     ensures { λ r. ⌜ r ≡ map (edgeOffset nx ny) cubeEdges ⌝ }
 {
     let y = 3 * nx;
@@ -157,7 +163,7 @@ fn edge_offsets(nx: usize, ny: usize) -> [usize; 12]
 
 // Writes the numbers of one cube's triangles; `many` is how many they are, and `edge` the first grid edge of the cube's first corner.
 fn write_cube(
-    rows: &[u8; 3840],
+    rows: &[u8; TABLE],
     offsets: &[usize; 12],
     work: &[u32],
     triangles: &mut [u32],
@@ -170,7 +176,7 @@ fn write_cube(
     requires { ⌜ CubeRoom (now offsets) (now work) (now triangles) case many edge at ⌝ }
     ensures { λ _. ⌜ now (triangles .exit) ≡ sets (now (triangles .entry)) at (cubeNumbers (now (offsets .entry)) (now (work .entry)) edge case) ⌝ }
 {
-    let from = 15 * case;
+    let from = CASE_LENGTH * case;
     for j in 0..many {
         let e = rows[from + j] as usize;
         let place = edge + offsets[e];
@@ -180,8 +186,8 @@ fn write_cube(
 
 // Writes the numbers of a row of cubes, and answers where it stopped.
 fn write_row(
-    rows: &[u8; 3840],
-    counts: &[u8; 256],
+    rows: &[u8; TABLE],
+    counts: &[u8; CASES],
     offsets: &[usize; 12],
     work: &[u32],
     triangles: &mut [u32],
@@ -193,7 +199,7 @@ fn write_row(
 ) -> usize
     requires { ⌜ Rows (now rows) ⌝ }
     requires { ⌜ Counts (now counts) ⌝ }
-    requires { ⌜ cubes < 64 ⌝ }
+    requires { ⌜ cubes < wordBits ⌝ }
     requires { ⌜ AllSet (cubes + 1) full ⌝ }
     requires { ⌜ RowRoom (now offsets) (now work) (now triangles) cubes row edge at ⌝ }
     ensures { λ r. ⌜ Written (now (triangles .entry)) (now (triangles .exit)) at (rowNumbers (now (offsets .entry)) (now (work .entry)) cubes row edge) r ⌝ }
@@ -219,10 +225,10 @@ fn write_row(
 
 // Writes the numbers of a layer of cubes, and answers where it stopped.
 fn write_layer(
-    rows: &[u8; 3840],
-    counts: &[u8; 256],
+    rows: &[u8; TABLE],
+    counts: &[u8; CASES],
     offsets: &[usize; 12],
-    masks: &[u64; 4096],
+    masks: &[u64; MOST_ROWS],
     work: &[u32],
     triangles: &mut [u32],
     layer: Layer,
@@ -264,7 +270,7 @@ pub fn write(
     nx: usize,
     ny: usize,
     nz: usize,
-    masks: &[u64; 4096],
+    masks: &[u64; MOST_ROWS],
     work: &[u32],
     triangles: &mut [u32],
 )

@@ -7,6 +7,7 @@ ghost use Rattle.curvature.specs.Promise.{left as curvesLeft, Curves, Tells};
 ghost use Rattle.shellnumbers.specs.Lists.{left as shellsLeft};
 ghost use Rattle.shelllist.specs.Promise.{Shells};
 ghost use mathlib.Core.List.{[], _∷_};
+use cube::CASE_LENGTH;
 use curvature::Reading;
 use records::Shell;
 
@@ -23,11 +24,11 @@ pub extern "C" fn tholbrina_case_count(case: u8) -> u8
 pub extern "C" fn tholbrina_case_edge(case: u8, place: u32) -> u8
     ensures { λ r. ⌜ EdgeRead case place r ⌝ }
 {
-    if 15 <= place {
+    if CASE_LENGTH <= place as usize {
         return 0;
     }
     let rows = cube::rows();
-    let at = (case as usize) * 15 + (place as usize);
+    let at = (case as usize) * CASE_LENGTH + (place as usize);
     rows[at]
 }
 

@@ -6,7 +6,7 @@ use mathlib.Core.Bool.{cond}
 use lib.Dec.{ltb}
 use lib.ListN.{length}
 use Rattle.laws.specs.Room.{laid}
-use Rattle.lines.specs.Line.{lettered}
+use Rattle.lines.specs.Line.{longestLine, lettered}
 
 -- a refusal's line: `R`, number, line
 abbrev pub letterR : ℕ
@@ -31,9 +31,9 @@ written text room = cond (ltb (length room) (length text)) (outcome 3 0 room) (o
 abbrev pub refusalWritten : ℕ → ℕ → List ℕ → Outcome
 refusalWritten number at room = written (refusalText number at) room
 
--- so many bytes hold any refusal's line: the letter and its tab, and two numbers of at most 21 bytes with the byte that ends each
+-- so many bytes hold any refusal's line
 abbrev pub longestRefusal : ℕ
-longestRefusal = 44
+longestRefusal = longestLine 2
 
 abbrev pub HoldsRefusal : ℕ → ℕ → Type 0
 HoldsRefusal room number = longestRefusal ≤ room → number ≡ 3 → ⊥

@@ -5,7 +5,7 @@ ghost use Prim.Native.Nat.{_+_, _*_, _≤_, _<_};
 ghost use lib.ListN.{length};
 ghost use lib.Seq.{sets};
 ghost use Rattle.lines.specs.Decimal.{decimal, signed};
-ghost use Rattle.lines.specs.Line.{fields, lettered};
+ghost use Rattle.lines.specs.Line.{longestNumber, longestField, mostFields, fields, lettered};
 ghost use Rattle.writing.specs.Writing.{outcome, refusalWritten, HoldsRefusal};
 use laws::signed;
 use lines::end_of;
@@ -65,7 +65,7 @@ pub fn write_field(n: u64, end: u8, room: &mut [u8], at: usize) -> usize
 // How many bytes a signed number takes.
 pub fn signed_length(n: i64) -> usize
     ensures length { λ r. ⌜ r ≡ length (signed n) ⌝ }
-    ensures small { λ r. ⌜ r ≤ 20 ⌝ }
+    ensures small { λ r. ⌜ r ≤ longestNumber ⌝ }
 {
     let count = digit_count(signed::size(n));
     if signed::is_negative(n) {
@@ -90,7 +90,7 @@ pub fn write_signed(n: i64, end: u8, room: &mut [u8], at: usize) -> usize
 // Writes numbers that have `more` fields after them in their line, and answers the place behind them.
 pub fn write_fields(numbers: &[u32], more: usize, room: &mut [u8], from: usize) -> usize
     requires { ⌜ from + length (fields more (now numbers)) ≤ length (now room) ⌝ }
-    requires { ⌜ more < 256 ⌝ }
+    requires { ⌜ more < mostFields ⌝ }
     ensures place { λ r. ⌜ r ≡ from + length (fields more (now (numbers .entry))) ⌝ }
     ensures text { λ _. ⌜ now (room .exit) ≡ sets (now (room .entry)) from (fields more (now (numbers .entry))) ⌝ }
 {
@@ -110,9 +110,9 @@ pub fn write_fields(numbers: &[u32], more: usize, room: &mut [u8], from: usize) 
 
 // How many bytes numbers take as fields of a line, each with the byte that ends it.
 pub fn fields_length(numbers: &[u32]) -> usize
-    requires { ⌜ length (now numbers) ≤ 256 ⌝ }
+    requires { ⌜ length (now numbers) ≤ mostFields ⌝ }
     ensures length { λ r. ⌜ r ≡ length (fields 0 (now (numbers .entry))) ⌝ }
-    ensures small { λ r. ⌜ r ≤ 21 * length (now (numbers .entry)) ⌝ }
+    ensures small { λ r. ⌜ r ≤ longestField * length (now (numbers .entry)) ⌝ }
 {
     let mut sum = 0;
     let mut i = 0;

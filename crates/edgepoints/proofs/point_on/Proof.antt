@@ -3,6 +3,7 @@ use mathlib.Core.Path.{_≡_}
 use Prim.Native.Nat.{_*_, _/_, _%_, _<_}
 use native.Mathlib.Omega.{arith}
 use borrow.Author.Needs.{needs}
+use Rattle.grid.specs.Limits.{mostSamples}
 use Rattle.rows.specs.Rows.{sizeOf}
 use Rattle.edgepoints.specs.EdgePoint.{pointBy}
 use Rattle.laws.proofs.Binary.{bit-times}
@@ -12,7 +13,7 @@ use Rattle.edgepoints.proofs.point_on.Statement.{statement}
 use Rattle.edgepoints.proofs.point_on.Tie as tie
 
 -- the sample's number is small
-few : (c : tie.Start) → c .args .at .s < 64 * 4096
+few : (c : tie.Start) → c .args .at .s < mostSamples
 few c =
     let at = c .pre .0 in
     omega (

@@ -9,7 +9,7 @@ use mir.Syntax.{w64}
 use mir.Facts.{toZ-ofZ}
 use borrow.Author.Needs.{needs}
 use Rattle.lines.specs.Decimal.{signed}
-use Rattle.lines.specs.Line.{fields}
+use Rattle.lines.specs.Line.{longestField, longestLine, fields}
 use Rattle.meshlines.specs.MeshLines.{shellNumbers, shellText, shellsText}
 use Rattle.meshlines.proofs.ShellTexts.{shell-long}
 use Rattle.meshlines.proofs.LinesWritten.{linesTo, lines-none, lines-length}
@@ -20,7 +20,7 @@ abbrev text : List ℕ → List ℤ → ℕ → List ℕ
 text records volumes i = shellText (shellNumbers records i) (getD volumes i (pos 0))
 
 abbrev Inv-loop : tie.InvT-loop
-Inv-loop records volumes sum₀ i₀ sum i = (i ≤ length volumes) × (sum ≡ length (linesTo (text records volumes) i)) × (sum ≤ 107 * i)
+Inv-loop records volumes sum₀ i₀ sum i = (i ≤ length volumes) × (sum ≡ length (linesTo (text records volumes) i)) × (sum ≤ longestLine 5 * i)
 
 abbrev μ-loop : tie.MeasureT-loop
 μ-loop records volumes sum₀ i₀ sum i = length volumes - i
@@ -40,7 +40,7 @@ fields-length-requires : tie.Need-fields-length-requires Inv-loop μ-loop
 fields-length-requires c κs = omega (arith, ap length (c .before .shell-numbers .ensures))
 
 -- four numbers take at most 84 bytes
-short : (c : tie.After-fields-length Inv-loop μ-loop) → c .fields-length .result ≤ 84
+short : (c : tie.After-fields-length Inv-loop μ-loop) → c .fields-length .result ≤ longestField * 4
 short c = omega (arith, c .fields-length .ensures .1, ap length (c .before .before .shell-numbers .ensures))
 
 add-sum : tie.Need-add-sum Inv-loop μ-loop

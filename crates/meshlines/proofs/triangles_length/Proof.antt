@@ -4,8 +4,8 @@ use Prim.Native.Nat.{_*_, _-_, _≤_}
 use native.Mathlib.Omega.{arith}
 use lib.ListN.{length}
 use borrow.Author.Needs.{needs}
-use Rattle.lines.specs.Line.{fields, lettered}
-use Rattle.meshlines.specs.MeshLines.{triangleNumbers, trianglesText}
+use Rattle.lines.specs.Line.{longestLine, fields, lettered}
+use Rattle.meshlines.specs.MeshLines.{letterT, triangleNumbers, trianglesText}
 use Rattle.writing.proofs.Fields.{lettered-length}
 use Rattle.meshlines.proofs.LinesWritten.{linesTo, lines-none, lines-length}
 use Rattle.meshlines.proofs.triangles_length.Statement.{statement}
@@ -13,13 +13,13 @@ use Rattle.meshlines.proofs.triangles_length.Tie as tie
 
 abbrev Inv-loop : tie.InvT-loop
 Inv-loop triangles t sum₀ i₀ sum i =
-    (i ≤ t) × (sum ≡ length (linesTo (λ i. lettered 84 (triangleNumbers triangles i)) i)) × (sum ≤ 65 * i)
+    (i ≤ t) × (sum ≡ length (linesTo (λ i. lettered letterT (triangleNumbers triangles i)) i)) × (sum ≤ longestLine 3 * i)
 
 abbrev μ-loop : tie.MeasureT-loop
 μ-loop triangles t sum₀ i₀ sum i = t - i
 
 loop-holds : tie.Need-loop-holds Inv-loop μ-loop
-loop-holds c = (omega arith, sym (ap length (lines-none (λ i. lettered 84 (triangleNumbers (c .before .args .triangles .now) i)))), omega arith)
+loop-holds c = (omega arith, sym (ap length (lines-none (λ i. lettered letterT (triangleNumbers (c .before .args .triangles .now) i)))), omega arith)
 
 triangle-numbers-requires : tie.Need-triangle-numbers-requires Inv-loop μ-loop
 triangle-numbers-requires c κs = omega arith
@@ -48,7 +48,7 @@ loop-again c =
     let l = p .before .before in
     let a = l .before .before .args in (
       omega arith,
-      omega (arith, l .loop .inv .1, c .fields-length .ensures .0, ap (λ n. length (fields 0 n)) (p .triangle-numbers .ensures), lines-length (λ i. lettered 84 (triangleNumbers (a .triangles .now) i)) (l .loop .i), lettered-length 84 (triangleNumbers (a .triangles .now) (l .loop .i))),
+      omega (arith, l .loop .inv .1, c .fields-length .ensures .0, ap (λ n. length (fields 0 n)) (p .triangle-numbers .ensures), lines-length (λ i. lettered letterT (triangleNumbers (a .triangles .now) i)) (l .loop .i), lettered-length letterT (triangleNumbers (a .triangles .now) (l .loop .i))),
       omega (arith, l .loop .inv .2, c .fields-length .ensures .1, ap length (p .triangle-numbers .ensures)),
     )
 
@@ -58,7 +58,7 @@ returns c =
     let l = c .before in
     let a = l .before .before .args in
     let e : l .loop .i ≡ a .t = omega arith in
-    (l .loop .inv .1 ∙ ap (λ k. length (linesTo (λ i. lettered 84 (triangleNumbers (a .triangles .now) i)) k)) e, omega arith)
+    (l .loop .inv .1 ∙ ap (λ k. length (linesTo (λ i. lettered letterT (triangleNumbers (a .triangles .now) i)) k)) e, omega arith)
 
 pub triangles-length-spec : {M : Type 1} → statement M
 triangles-length-spec =

@@ -6,7 +6,7 @@ use lib.ListN.{length}
 use lib.Seq.{sets}
 use borrow.Author.Needs.{needs}
 use Rattle.lines.specs.Line.{lettered}
-use Rattle.meshlines.specs.MeshLines.{pointNumbers, pointsText}
+use Rattle.meshlines.specs.MeshLines.{letterV, pointNumbers, pointsText}
 use Rattle.writing.proofs.Fields.{lettered-length}
 use Rattle.meshlines.proofs.LinesWritten.{linesTo, lines-none, lines-length, lines-rise, lines-written}
 use Rattle.meshlines.proofs.write_points.Statement.{statement}
@@ -14,8 +14,8 @@ use Rattle.meshlines.proofs.write_points.Tie as tie
 
 abbrev Inv-loop : tie.InvT-loop
 Inv-loop points edges marks v room₀ from at₀ i₀ room at i =
-    (i ≤ v) × (length room ≡ length room₀) × (at ≡ from + length (linesTo (λ i. lettered 86 (pointNumbers points edges marks i)) i))
-    × (room ≡ sets room₀ from (linesTo (λ i. lettered 86 (pointNumbers points edges marks i)) i))
+    (i ≤ v) × (length room ≡ length room₀) × (at ≡ from + length (linesTo (λ i. lettered letterV (pointNumbers points edges marks i)) i))
+    × (room ≡ sets room₀ from (linesTo (λ i. lettered letterV (pointNumbers points edges marks i)) i))
 
 abbrev μ-loop : tie.MeasureT-loop
 μ-loop points edges marks v room₀ from at₀ i₀ room at i = v - i
@@ -23,7 +23,7 @@ abbrev μ-loop : tie.MeasureT-loop
 loop-holds : tie.Need-loop-holds Inv-loop μ-loop
 loop-holds c =
     let a = c .before .before .before .before .args in
-    let z = lines-none (λ i. lettered 86 (pointNumbers (a .points .now) (a .edges .now) (a .marks .now) i)) in
+    let z = lines-none (λ i. lettered letterV (pointNumbers (a .points .now) (a .edges .now) (a .marks .now) i)) in
     (omega arith, refl, omega (arith, ap length z), sym (ap (sets (a .room .now) (a .from)) z))
 
 point-numbers-requires : tie.Need-point-numbers-requires Inv-loop μ-loop
@@ -41,7 +41,7 @@ write-lettered-requires c κs =
     let a = s .args in
     let g = pointNumbers (a .points .now) (a .edges .now) (a .marks .now) in
     rw (p .point-numbers .ensures)
-    (omega (arith, lettered-length 86 (g (l .loop .i)), lines-length (λ i. lettered 86 (g i)) (l .loop .i), lines-rise (λ i. lettered 86 (g i)) (l .loop .i + 1) (a .v) (omega arith), l .loop .inv .1, l .loop .inv .2, s .pre .1))
+    (omega (arith, lettered-length letterV (g (l .loop .i)), lines-length (λ i. lettered letterV (g i)) (l .loop .i), lines-rise (λ i. lettered letterV (g i)) (l .loop .i + 1) (a .v) (omega arith), l .loop .inv .1, l .loop .inv .2, s .pre .1))
 
 add-i : tie.Need-add-i Inv-loop μ-loop
 add-i c = omega arith
@@ -60,9 +60,9 @@ loop-again c =
     let old = l .loop .room in (
       omega arith,
       w .write-lettered .kept .1 .1 .0 ∙ l .loop .inv .1,
-      omega (arith, w .write-lettered .ensures .0, ap (λ n. length (lettered 86 n)) n, lettered-length 86 (g (l .loop .i)), lines-length (λ i. lettered 86 (g i)) (l .loop .i), l .loop .inv .2),
-      lines-written (λ i. lettered 86 (g i)) (a .room .now) old (w .write-lettered .last .1 .1 .0) (a .from) (l .loop .at) (l .loop .i) (l .loop .inv .3) (l .loop .inv .2)
-          (w .write-lettered .ensures .1 ∙ ap (λ n. sets old (l .loop .at) (lettered 86 n)) n),
+      omega (arith, w .write-lettered .ensures .0, ap (λ n. length (lettered letterV n)) n, lettered-length letterV (g (l .loop .i)), lines-length (λ i. lettered letterV (g i)) (l .loop .i), l .loop .inv .2),
+      lines-written (λ i. lettered letterV (g i)) (a .room .now) old (w .write-lettered .last .1 .1 .0) (a .from) (l .loop .at) (l .loop .i) (l .loop .inv .3) (l .loop .inv .2)
+          (w .write-lettered .ensures .1 ∙ ap (λ n. sets old (l .loop .at) (lettered letterV n)) n),
     )
 
 same-length : tie.Need-same-length Inv-loop μ-loop
@@ -75,7 +75,7 @@ returns c =
     let a = l .before .before .before .before .before .args in
     let g = pointNumbers (a .points .now) (a .edges .now) (a .marks .now) in
     let e : l .loop .i ≡ a .v = omega arith in
-    (l .loop .inv .2 ∙ ap (λ k. a .from + length (linesTo (λ i. lettered 86 (g i)) k)) e, l .loop .inv .3 ∙ ap (λ k. sets (a .room .now) (a .from) (linesTo (λ i. lettered 86 (g i)) k)) e)
+    (l .loop .inv .2 ∙ ap (λ k. a .from + length (linesTo (λ i. lettered letterV (g i)) k)) e, l .loop .inv .3 ∙ ap (λ k. sets (a .room .now) (a .from) (linesTo (λ i. lettered letterV (g i)) k)) e)
 
 pub write-points-spec : {M : Type 1} → statement M
 write-points-spec =

@@ -4,6 +4,7 @@ use Prim.Native.Nat.{_+_, _*_, _/_, _≤_}
 use native.Mathlib.Omega.{arith}
 use lib.ListN.{length}
 use Rattle.grid.specs.Limits.{mostPoints, mostTriangles}
+use Rattle.lines.specs.Line.{longestField, longestLine}
 use Rattle.meshtext.proofs.MeshTexts.{lists-fit, records-fit, lines-of-length}
 use borrow.Author.Needs.{needs}
 use Rattle.meshtext.proofs.mesh_length.Statement.{statement}
@@ -32,7 +33,7 @@ triangles-length-requires : tie.Need-triangles-length-requires
 triangles-length-requires c κs = omega (arith, facts (begun (c .before)))
 
 -- what is summed before the shells
-sums : (c : tie.After-triangles-length) → c .before .before .fields-length .result + c .before .points-length .result + c .triangles-length .result ≤ 63 + 107 * mostPoints + 65 * mostTriangles
+sums : (c : tie.After-triangles-length) → c .before .before .fields-length .result + c .before .points-length .result + c .triangles-length .result ≤ longestField * 3 + longestLine 5 * mostPoints + longestLine 3 * mostTriangles
 sums c =
     let f = c .before .before in
     omega (arith, f .fields-length .ensures .1, c .before .points-length .ensures .1, c .triangles-length .ensures .1, facts (begun f), begun f .pre .1 .1)

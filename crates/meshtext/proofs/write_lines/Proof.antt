@@ -7,6 +7,7 @@ use Rattle.grid.specs.Limits.{mostPoints, mostTriangles}
 use Rattle.lines.specs.Line.{fields}
 use Rattle.meshlines.specs.MeshLines.{pointsText, trianglesText, shellsText}
 use Rattle.writing.proofs.Fields.{lettered-length}
+use Rattle.meshtext.specs.MeshText.{letterM}
 use Rattle.meshtext.proofs.MeshTexts.{lists-fit, records-fit, lines-of-length, lines-of-written}
 use borrow.Author.Needs.{needs}
 use Rattle.meshtext.proofs.write_lines.Statement.{statement}
@@ -25,20 +26,20 @@ long : (s : tie.Start) → let a = s .args in 2 + length (fields 0 (a .counts .n
 long s = let a = s .args in omega (arith, s .pre .1 .1, lines-of-length (a .counts .now) (a .points .now) (a .edges .now) (a .marks .now) (a .triangles .now) (a .records .now) (a .volumes .now))
 
 write-lettered-requires : tie.Need-write-lettered-requires
-write-lettered-requires c κs = let s = begun c in omega (arith, long s, lettered-length 77 (s .args .counts .now))
+write-lettered-requires c κs = let s = begun c in omega (arith, long s, lettered-length letterM (s .args .counts .now))
 
 write-points-requires : tie.Need-write-points-requires
 write-points-requires c κs =
     let w = c .before .before .before in
     let s = begun (w .before) in
-    (omega (arith, facts s), omega (arith, long s, lettered-length 77 (s .args .counts .now), w .write-lettered .ensures .0, w .write-lettered .kept .1 .1 .0))
+    (omega (arith, facts s), omega (arith, long s, lettered-length letterM (s .args .counts .now), w .write-lettered .ensures .0, w .write-lettered .kept .1 .1 .0))
 
 write-triangles-requires : tie.Need-write-triangles-requires
 write-triangles-requires c κs =
     let p = c .before .before .before in
     let w = p .before .before .before .before in
     let s = begun (w .before) in
-    (omega (arith, facts s), omega (arith, long s, lettered-length 77 (s .args .counts .now), w .write-lettered .ensures .0, w .write-lettered .kept .1 .1 .0, p .write-points .ensures .0, p .write-points .kept .1 .1 .1 .1 .0))
+    (omega (arith, facts s), omega (arith, long s, lettered-length letterM (s .args .counts .now), w .write-lettered .ensures .0, w .write-lettered .kept .1 .1 .0, p .write-points .ensures .0, p .write-points .kept .1 .1 .1 .1 .0))
 
 write-shells-requires : tie.Need-write-shells-requires
 write-shells-requires c κs =
@@ -46,7 +47,7 @@ write-shells-requires c κs =
     let p = t .before .before .before .before in
     let w = p .before .before .before .before in
     let s = begun (w .before) in
-    (omega (arith, recorded s), omega (arith, long s, lettered-length 77 (s .args .counts .now), w .write-lettered .ensures .0, w .write-lettered .kept .1 .1 .0, p .write-points .ensures .0, p .write-points .kept .1 .1 .1 .1 .0, t .write-triangles .ensures .0, t .write-triangles .kept .1 .1 .0))
+    (omega (arith, recorded s), omega (arith, long s, lettered-length letterM (s .args .counts .now), w .write-lettered .ensures .0, w .write-lettered .kept .1 .1 .0, p .write-points .ensures .0, p .write-points .kept .1 .1 .1 .1 .0, t .write-triangles .ensures .0, t .write-triangles .kept .1 .1 .0))
 
 same-length : tie.Need-same-length
 same-length c = search needs

@@ -21,20 +21,12 @@ Inv-loop input from first most at₀ value₀ at value =
 
 abbrev μ-loop : tie.MeasureT-loop
 μ-loop input from first most at₀ value₀ at value = length input - at
-
--- src/reading.rt:31:5
 loop-holds : tie.Need-loop-holds Inv-loop μ-loop
 loop-holds c = (omega arith, omega arith, refl)
-
--- src/reading.rt:32:20
 shared-slice-read-byte : tie.Need-shared-slice-read-byte Inv-loop μ-loop
 shared-slice-read-byte c = omega arith
-
--- src/reading.rt:33:13
 is-digit-requires : tie.Need-is-digit-requires Inv-loop μ-loop
 is-digit-requires c κs = search needs
-
--- src/reading.rt:34:13
 returns : tie.Need-returns Inv-loop μ-loop
 unfolding answered
 returns c =
@@ -44,20 +36,12 @@ returns c =
       within = omega arith;
       inside = omega arith;
     }
-
--- src/reading.rt:40:22
 sub-digit : tie.Need-sub-digit Inv-loop μ-loop
 sub-digit c = omega (arith, of-digit _ (sym (c .before .is-digit .ensures) ∙ not-false _ (c .if1 .left)))
-
--- src/reading.rt:40:21
 cast-digit : tie.Need-cast-digit Inv-loop μ-loop
 cast-digit c = omega (arith, of-digit _ (sym (c .before .is-digit .ensures) ∙ not-false _ (c .if1 .left)))
-
--- src/reading.rt:41:21
 sub-if2 : tie.Need-sub-if2 Inv-loop μ-loop
 sub-if2 c = omega (arith, of-digit _ (sym (c .before .is-digit .ensures) ∙ not-false _ (c .if1 .left)))
-
--- src/reading.rt:42:13
 nothing-requires : tie.Need-nothing-requires Inv-loop μ-loop
 nothing-requires c κs = search needs
 
@@ -70,27 +54,17 @@ returns-2 c =
 
 mul-value : tie.Need-mul-value Inv-loop μ-loop
 mul-value c = omega arith
-
--- src/reading.rt:48:17
 add-value : tie.Need-add-value Inv-loop μ-loop
 add-value c = omega (arith, of-digit _ (sym (c .before .before .is-digit .ensures) ∙ not-false _ (c .before .if1 .left)))
-
--- src/reading.rt:49:9
 add-at : tie.Need-add-at Inv-loop μ-loop
 add-at c = omega arith
-
--- src/reading.rt:31:5
 loop-less : tie.Need-loop-less Inv-loop μ-loop
 loop-less c = omega arith
-
--- src/reading.rt:31:5
 loop-again : tie.Need-loop-again Inv-loop μ-loop
 loop-again c =
     let l = c .before .before .before .before .before in
     let d = sym (c .before .before .is-digit .ensures) ∙ not-false _ (c .before .if1 .left) in
     (omega arith, omega (arith, of-digit _ d), l .loop .inv .2 ∙ digits-next-at _ (l .loop .value) (l .before .before .args .input .now) (l .loop .at) (omega arith) d (omega (arith, of-digit _ d)))
-
--- src/reading.rt:25:1
 returns-3 : tie.Need-returns-3 Inv-loop μ-loop
 unfolding answered
 returns-3 c =

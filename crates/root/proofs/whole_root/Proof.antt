@@ -2,12 +2,13 @@
 use Prim.Native.Nat.{_+_, _*_, _<_, _^_}
 use native.Mathlib.Nat.{mul-le-mul, div-le-self}
 use native.Mathlib.Omega.{arith}
+use Rattle.grid.specs.Limits.{rootDigits}
 use Rattle.root.proofs.Newton.{step-above, step-below, positive}
 use Rattle.root.proofs.whole_root.Statement.{statement}
 use Rattle.root.proofs.whole_root.Tie as tie
 
 abbrev Inv-loop : tie.InvT-loop
-Inv-loop m r₀ r = (m < (r + 1) * (r + 1)) × (r < 2 ^ 31)
+Inv-loop m r₀ r = (m < (r + 1) * (r + 1)) × (r < 2 ^ (rootDigits + 1))
 
 abbrev μ-loop : tie.MeasureT-loop
 μ-loop m r₀ r = r
@@ -16,12 +17,12 @@ add-r : tie.Need-add-r Inv-loop μ-loop
 add-r c = omega arith
 
 loop-holds : tie.Need-loop-holds Inv-loop μ-loop
-loop-holds c = (step-above (c .args .m) 759250125 (omega arith), omega arith)
+loop-holds c = (step-above (c .args .m) _ (omega arith), omega arith)
 
 mul-loop : tie.Need-mul-loop Inv-loop μ-loop
 mul-loop c =
     let r = c .loop .r in
-    omega (arith, mul-le-mul {n₁ = r} {m₁ = r} {n₂ = 2 ^ 31} {m₂ = 2 ^ 31} (omega arith) (omega arith))
+    omega (arith, mul-le-mul {n₁ = r} {m₁ = r} {n₂ = 2 ^ (rootDigits + 1)} {m₂ = 2 ^ (rootDigits + 1)} (omega arith) (omega arith))
 
 div-r : tie.Need-div-r Inv-loop μ-loop
 div-r c = positive _ _ (c .loop-test .taken)

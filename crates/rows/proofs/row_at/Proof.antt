@@ -1,4 +1,4 @@
--- `rows::row_at` meets its contract. A row of a grid within the limits is below 4096, and so are its neighbours where they are there.
+-- `rows::row_at` meets its contract. A row of a grid within the limits is below `mostRows`, and so are its neighbours where they are there.
 -- Assumes nothing.
 use mathlib.Core.Path.{refl}
 use Prim.Native.Nat.{_+_, _*_, _<_}
@@ -6,11 +6,12 @@ use native.Mathlib.Omega.{arith}
 use borrow.Author.Needs.{needs}
 use borrow.Author.Tests.{ltb-true}
 use Rattle.laws.specs.Bits.{halved}
+use Rattle.grid.specs.Limits.{mostRows}
 use Rattle.rows.proofs.Bounds.{row-small, behind-small, over-small}
 use Rattle.rows.proofs.row_at.Statement.{statement}
 use Rattle.rows.proofs.row_at.Tie as tie
 
-small : (c : tie.Start) → c .args .y + c .args .sides .ny * c .args .z < 4096
+small : (c : tie.Start) → c .args .y + c .args .sides .ny * c .args .z < mostRows
 small c =
     let a = c .args in
     row-small (a .sides .ny) (a .sides .nz) (c .pre .0 .most-y) (c .pre .0 .most-z) (a .y) (a .z) (c .pre .1 .0) (c .pre .1 .1)

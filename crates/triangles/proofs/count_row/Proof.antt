@@ -5,6 +5,7 @@ use native.Mathlib.Omega.{arith}
 use borrow.Author.Needs.{needs}
 use lib.Count.{trailingZeros}
 use lib.ListN.{getD}
+use Rattle.laws.specs.Bits.{wordBits}
 use Rattle.cube.specs.Answer.{count}
 use Rattle.triangles.specs.Row.{rowCase, rowCount}
 use Rattle.triangles.proofs.Cases.{row-case-small, count-most}
@@ -30,7 +31,7 @@ abbrev begun : tie.In-loop Inv-loop μ-loop → tie.Start Inv-loop μ-loop
 begun c = c .before .before .before
 
 abbrev skip : tie.In-loop Inv-loop μ-loop → ℕ
-skip c = trailingZeros 64 (c .before .loop .busy)
+skip c = trailingZeros wordBits (c .before .loop .busy)
 
 abbrev cubeHere : tie.In-loop Inv-loop μ-loop → ℕ
 cubeHere c = c .before .loop .inv .0 + skip c

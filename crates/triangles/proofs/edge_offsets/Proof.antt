@@ -4,12 +4,13 @@ use Prim.Native.Nat.{_+_, _*_, _≤_}
 use native.Mathlib.Nat.{mul-assoc, mul-add, mul-zero, mul-one, add-zero, zero-add, add-assoc, mul-le-mul-left}
 use native.Mathlib.Omega.{arith}
 use borrow.Author.Needs.{needs}
+use Rattle.grid.specs.Limits.{mostSide}
 use Rattle.triangles.specs.Row.{edgeOffset}
 use Rattle.triangles.proofs.edge_offsets.Statement.{statement}
 use Rattle.triangles.proofs.edge_offsets.Tie as tie
 
 -- a layer has few grid edges
-step-most : (c : tie.Start) → 3 * c .args .nx * c .args .ny ≤ 3 * c .args .nx * 64
+step-most : (c : tie.Start) → 3 * c .args .nx * c .args .ny ≤ 3 * c .args .nx * mostSide
 step-most c = mul-le-mul-left (3 * c .args .nx) (c .pre .1)
 
 mul-y : tie.Need-mul-y

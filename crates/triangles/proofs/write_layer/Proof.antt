@@ -4,6 +4,7 @@ use mathlib.Core.Path.{_≡_, ap}
 use Prim.Native.Nat.{_+_, _*_, _-_, _≤_}
 use native.Mathlib.Nat.{mul-add, mul-le-mul-left}
 use native.Mathlib.Omega.{arith}
+use Rattle.grid.specs.Limits.{mostRows}
 use Rattle.triangles.specs.Row.{layerNumbers}
 use Rattle.triangles.specs.Walk.{Written}
 use Rattle.triangles.proofs.Steps.{above-row}
@@ -32,7 +33,7 @@ mul-edge c =
     let start = c .before .before .before .before .before in
     let fits = start .pre .1 .1 .0 in
     let layer = start .args .layer in
-    omega (arith, fits, mul-le-mul-left {m = layer .first} {n = 4096} (3 * layer .nx) (omega (arith, fits)))
+    omega (arith, fits, mul-le-mul-left {m = layer .first} {n = mostRows} (3 * layer .nx) (omega (arith, fits)))
 
 loop-holds : tie.Need-loop-holds Inv-loop μ-loop
 loop-holds c =

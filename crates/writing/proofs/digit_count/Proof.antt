@@ -1,9 +1,10 @@
 -- `writing::digit_count` meets its contract. Assumes nothing.
 use mathlib.Core.Path.{_≡_}
-use Prim.Native.Nat.{_+_}
+use Prim.Native.Nat.{_+_, _-_}
 use native.Mathlib.Omega.{arith}
 use lib.ListN.{length}
 use Rattle.lines.specs.Decimal.{decimal}
+use Rattle.lines.specs.Line.{longestNumber}
 use Rattle.writing.proofs.Fields.{digits-one, digits-more, digits-most}
 use Rattle.writing.proofs.digit_count.Statement.{statement}
 use Rattle.writing.proofs.digit_count.Tie as tie
@@ -18,7 +19,7 @@ loop-holds : tie.Need-loop-holds Inv-loop μ-loop
 loop-holds c = omega arith
 
 add-count : tie.Need-add-count Inv-loop μ-loop
-add-count c = omega (arith, digits-most 19 (c .before .before .args .n) (omega arith))
+add-count c = omega (arith, digits-most (longestNumber - 1) (c .before .before .args .n) (omega arith))
 
 loop-less : tie.Need-loop-less Inv-loop μ-loop
 loop-less c = omega arith

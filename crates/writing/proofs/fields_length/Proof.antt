@@ -1,18 +1,18 @@
--- `writing::fields_length` meets its contract: a number has at most 20 digits, so that the sum fits. Assumes nothing.
+-- `writing::fields_length` meets its contract: no number is longer than the longest, so that the sum fits. Assumes nothing.
 use mathlib.Core.Path.{_≡_, ap}
 use Prim.Native.Nat.{_+_, _*_, _-_, _≤_}
 use native.Mathlib.Omega.{arith}
 use lib.ListN.{length, getD, drop}
 use borrow.Author.Needs.{needs}
 use Rattle.lines.specs.Decimal.{decimal}
-use Rattle.lines.specs.Line.{fields}
+use Rattle.lines.specs.Line.{longestNumber, longestField, fields}
 use Rattle.writing.proofs.Fields.{digits-most, fields-length, fields-end}
 use Rattle.writing.proofs.fields_length.Statement.{statement}
 use Rattle.writing.proofs.fields_length.Tie as tie
 
 abbrev Inv-loop : tie.InvT-loop
 Inv-loop numbers sum₀ i₀ sum i =
-    (i ≤ length numbers) × (sum + length (fields 0 (drop i numbers)) ≡ length (fields 0 numbers)) × (sum ≤ 21 * i)
+    (i ≤ length numbers) × (sum + length (fields 0 (drop i numbers)) ≡ length (fields 0 numbers)) × (sum ≤ longestField * i)
 
 abbrev μ-loop : tie.MeasureT-loop
 μ-loop numbers sum₀ i₀ sum i = length numbers - i
@@ -32,11 +32,11 @@ cast-digit-count c = omega (arith, c .shared-slice-known2 .given (c .before .bef
 digit-count-requires : tie.Need-digit-count-requires Inv-loop μ-loop
 digit-count-requires c κs = search needs
 
-short : (c : tie.After-digit-count Inv-loop μ-loop) → length (decimal (getD (c .before .before .before .before .before .args .numbers .now) (c .before .before .before .loop .i) 0)) ≤ 20
+short : (c : tie.After-digit-count Inv-loop μ-loop) → length (decimal (getD (c .before .before .before .before .before .args .numbers .now) (c .before .before .before .loop .i) 0)) ≤ longestNumber
 short c =
     let l = c .before .before .before in
     let n = getD (l .before .before .args .numbers .now) (l .loop .i) 0 in
-    digits-most 19 n (omega (arith, c .before .shared-slice-known2 .given (l .loop .i)))
+    digits-most (longestNumber - 1) n (omega (arith, c .before .shared-slice-known2 .given (l .loop .i)))
 
 add-sum : tie.Need-add-sum Inv-loop μ-loop
 add-sum c =

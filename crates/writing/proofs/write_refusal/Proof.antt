@@ -3,7 +3,7 @@ use mathlib.Core.List.{_∷_, []}
 use Prim.Native.Nat.{_+_}
 use native.Mathlib.Omega.{arith}
 use Rattle.lines.specs.Line.{lettered}
-use Rattle.writing.specs.Writing.{refusalText}
+use Rattle.writing.specs.Writing.{letterR, refusalText}
 use Rattle.writing.proofs.Fields.{lettered-length, written-front, written-not}
 use borrow.Author.Needs.{needs}
 use Rattle.writing.proofs.write_refusal.Statement.{statement}
@@ -30,7 +30,7 @@ returns c =
     let ns = a .number ∷ a .line ∷ [] in (
       λ l e. absurd (omega (arith, l, f .fields-length .ensures .1, t .if1 .taken)),
       rw (c .refused .ensures)
-          (written-not (lettered 82 ns) (a .room .now) (omega (arith, f .fields-length .ensures .0, lettered-length 82 ns, t .if1 .taken))),
+          (written-not (lettered letterR ns) (a .room .now) (omega (arith, f .fields-length .ensures .0, lettered-length letterR ns, t .if1 .taken))),
     )
 
 slice-aggregate-write-lettered : tie.Need-slice-aggregate-write-lettered
@@ -40,7 +40,7 @@ write-lettered-requires : tie.Need-write-lettered-requires
 write-lettered-requires c κs =
     let f = c .before .before .before in
     let a = f .before .before .before .args in
-    omega (arith, f .fields-length .ensures .0, lettered-length 82 (a .number ∷ a .line ∷ []), c .before .before .if1 .left)
+    omega (arith, f .fields-length .ensures .0, lettered-length letterR (a .number ∷ a .line ∷ []), c .before .before .if1 .left)
 
 same-length : tie.Need-same-length
 same-length c = search needs
@@ -53,9 +53,9 @@ returns-2 c =
     let f = e .before in
     let a = f .before .before .before .args in
     let ns = a .number ∷ a .line ∷ [] in
-    let l = lettered-length 82 ns in (
+    let l = lettered-length letterR ns in (
       λ l t. absurd (omega (arith, t)),
-      written-front (lettered 82 ns) (a .room .now) (w .write-lettered .last .1 .1 .0) (2 + f .fields-length .result)
+      written-front (lettered letterR ns) (a .room .now) (w .write-lettered .last .1 .1 .0) (2 + f .fields-length .result)
           (omega (arith, f .fields-length .ensures .0, l, e .if1 .left)) (omega (arith, f .fields-length .ensures .0, l)) (w .write-lettered .ensures .1),
     )
 

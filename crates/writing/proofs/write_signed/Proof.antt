@@ -9,7 +9,7 @@ use lib.ListN.{length, set, length-set}
 use lib.Seq.{sets}
 use borrow.Author.Needs.{needs}
 use Rattle.laws.specs.Signed.{negative}
-use Rattle.lines.specs.Decimal.{decimal, signed}
+use Rattle.lines.specs.Decimal.{minusSign, decimal, signed}
 use Rattle.writing.proofs.Signs.{signed-plain, signed-minus, size-learnt, minus-first}
 use Rattle.laws.proofs.Sizes.{sign-learnt}
 use Rattle.writing.proofs.write_signed.Statement.{statement}
@@ -45,13 +45,13 @@ write-field-requires c κs =
     let z = c .before in
     let i = z .before .before in
     let t = s i in
-    omega (arith, t .pre, long i (z .before .if1 .taken), ap (λ m. length (decimal m)) (measured z), length-set (t .args .room .now) (t .args .at) 45)
+    omega (arith, t .pre, long i (z .before .if1 .taken), ap (λ m. length (decimal m)) (measured z), length-set (t .args .room .now) (t .args .at) minusSign)
 
 same-length : tie.Need-same-length
 same-length c =
     let w = c .before .before in
     let t = s (w .before .before .before .before) in
-    w .write-field .kept .1 .1 .0 ∙ length-set (t .args .room .now) (t .args .at) 45
+    w .write-field .kept .1 .1 .0 ∙ length-set (t .args .room .now) (t .args .at) minusSign
 
 returns : tie.Need-returns
 returns c =
@@ -62,7 +62,7 @@ returns c =
     let d = ap decimal (measured z) in (
       omega (arith, w .write-field .ensures .0, ap length d, long i (z .before .if1 .taken)),
       minus-first (t .args .room .now) (w .write-field .last .1 .1 .0) (t .args .n) (t .args .at) (t .args .end) (sym (known i) ∙ z .before .if1 .taken)
-          (w .write-field .ensures .1 ∙ ap (λ d. sets (set (t .args .room .now) (t .args .at) 45) (t .args .at + 1) (d ++ t .args .end ∷ [])) d),
+          (w .write-field .ensures .1 ∙ ap (λ d. sets (set (t .args .room .now) (t .args .at) minusSign) (t .args .at + 1) (d ++ t .args .end ∷ [])) d),
     )
 
 size-requires-2 : tie.Need-size-requires-2

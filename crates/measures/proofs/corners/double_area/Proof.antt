@@ -5,13 +5,14 @@ use native.Mathlib.Nat.{one-mul, mod-eq-of-lt}
 use native.Mathlib.Omega.{arith}
 use lib.Pow.{pow-lt}
 use borrow.Author.Needs.{needs}
+use Rattle.grid.specs.Limits.{rootDigits}
 use Rattle.root.proofs.Window.{scale-most}
 use Rattle.root.proofs.OneRoot.{is-root-of, root-most}
 use Rattle.measures.specs.Corners.{doubleArea}
 use Rattle.measures.proofs.corners.double_area.Statement.{statement}
 use Rattle.measures.proofs.corners.double_area.Tie as tie
 
-shifted-one : (s : ℕ) → s < 30 → (1 * 2 ^ s) % 2 ^ 64 ≡ 2 ^ s
+shifted-one : (s : ℕ) → s < rootDigits → (1 * 2 ^ s) % 2 ^ 64 ≡ 2 ^ s
 shifted-one s h = rw (one-mul) (mod-eq-of-lt (omega (arith, pow-lt h)))
 
 root-requires : tie.Need-root-requires

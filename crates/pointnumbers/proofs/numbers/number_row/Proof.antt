@@ -5,9 +5,10 @@ use Prim.Native.Nat.{ℕ, _+_, _*_, _-_, _<_, _≤_}
 use native.Mathlib.Omega.{arith}
 use lib.Count.{trailingZeros}
 use denote.Ref.{now}
-use Rattle.laws.specs.Bits.{halved}
+use Rattle.laws.specs.Bits.{wordBits, halved}
+use Rattle.grid.specs.Limits.{mostRows, mostEdges}
 use Rattle.grid.specs.Grid.{axes, edgeCount}
-use Rattle.rows.specs.Rows.{sizeOf, firstEdge, mostEdges}
+use Rattle.rows.specs.Rows.{sizeOf, firstEdge}
 use Rattle.pointnumbers.specs.Numbers.{NumberedTo}
 use Rattle.rows.proofs.Bounds.{row-small, edges-few, sample-small, next-row}
 use Rattle.rows.proofs.Cut.{row-passed, tested}
@@ -35,7 +36,7 @@ row-at-requires : tie.Need-row-at-requires Inv-loop μ-loop
 row-at-requires c κs = (c .before .pre .0 .fit, (c .before .pre .1 .0, c .before .pre .1 .1 .0))
 
 -- the row's place among the rows, and its first edge, are small
-row-few : (s : tie.Start Inv-loop μ-loop) → s .args .y + s .args .sides .ny * s .args .z < 4096
+row-few : (s : tie.Start Inv-loop μ-loop) → s .args .y + s .args .sides .ny * s .args .z < mostRows
 row-few s =
     row-small (s .args .sides .ny) (s .args .sides .nz) (s .pre .0 .fit .most-y) (s .pre .0 .fit .most-z) (s .args .y) (s .args .z) (s .pre .1 .0) (s .pre .1 .1 .0)
 
@@ -88,7 +89,7 @@ next-busy c =
     (c .loop-test .taken)
 
 abbrev found-at : tie.At-loop Inv-loop μ-loop → ℕ
-found-at l = l .loop .next + trailingZeros 64 (l .loop .busy)
+found-at l = l .loop .next + trailingZeros wordBits (l .loop .busy)
 
 edges-there : (c : tie.In-loop Inv-loop μ-loop) → let s = start (c .before) in edges-at s (found-at (c .before)) + 2 < edgeCount axes (sizeOf (s .args .sides))
 edges-there c =
@@ -101,7 +102,7 @@ numbered-there : (c : tie.In-loop Inv-loop μ-loop)
 numbered-there c =
     let l = c .before in
     let a = start l .args in
-    let skip = trailingZeros 64 (l .loop .busy) in
+    let skip = trailingZeros wordBits (l .loop .busy) in
     let q : edges-at (start l) (found-at l) ≡ edges-at (start l) (l .loop .next) + 3 * skip = omega arith in
     rw q
     (none-passed (a .sides) (now (a .masks)) (edges-at (start l) (l .loop .next)) (l .loop .n) (l .loop .work) (l .loop .inv .2) (3 * skip) (next-busy c .uncut))

@@ -5,7 +5,8 @@ use Prim.Native.Nat.{ℕ, _+_, _*_, _-_, _<_, _≤_}
 use native.Mathlib.Omega.{arith}
 use lib.Count.{trailingZeros}
 use denote.Ref.{now}
-use Rattle.laws.specs.Bits.{halved}
+use Rattle.laws.specs.Bits.{wordBits, halved}
+use Rattle.grid.specs.Limits.{mostRows, mostSamples}
 use Rattle.rows.specs.Rows.{firstEdge}
 use Rattle.edgepoints.specs.EdgePoint.{PointRooms, pointRooms}
 use Rattle.pointplaces.specs.Places.{countAll, Advanced}
@@ -54,12 +55,12 @@ row-at-requires c κs =
     (s .pre .0 .ready .fit, (s .pre .1 .0, s .pre .1 .1 .0))
 
 -- the row's place among the rows, and its samples, are small
-row-few : (s : tie.Start Inv-loop μ-loop) → s .args .y + s .args .sides .ny * s .args .z < 4096
+row-few : (s : tie.Start Inv-loop μ-loop) → s .args .y + s .args .sides .ny * s .args .z < mostRows
 row-few s =
     let fit = s .pre .0 .ready .fit in
     row-small (s .args .sides .ny) (s .args .sides .nz) (fit .most-y) (fit .most-z) (s .args .y) (s .args .z) (s .pre .1 .0) (s .pre .1 .1 .0)
 
-sample-few : (s : tie.Start Inv-loop μ-loop) (x : ℕ) → x < s .args .sides .nx → sample-at s x < 64 * 4096
+sample-few : (s : tie.Start Inv-loop μ-loop) (x : ℕ) → x < s .args .sides .nx → sample-at s x < mostSamples
 sample-few s x h =
     omega (
       arith,
@@ -115,7 +116,7 @@ next-busy c =
     (c .loop-test .taken)
 
 abbrev found-at : tie.At-loop Inv-loop μ-loop → ℕ
-found-at l = l .loop .next + trailingZeros 64 (l .loop .busy)
+found-at l = l .loop .next + trailingZeros wordBits (l .loop .busy)
 
 placed-there : (c : tie.In-loop Inv-loop μ-loop)
     → let l = c .before in
@@ -127,7 +128,7 @@ placed-there c =
     let s = start l in
     let a = s .args in
     let here = edges-at s (l .loop .next) in
-    let skip = trailingZeros 64 (l .loop .busy) in
+    let skip = trailingZeros wordBits (l .loop .busy) in
     let q : edges-at s (found-at l) ≡ here + 3 * skip = omega arith in
     let so = l .loop .inv .3 in
     let over = none-passed (a .sides) (a .grey) (now (a .samples)) (now (a .masks)) here (l .loop .n) (loop-rooms l) (so .counted) (3 * skip) (next-busy c .uncut) in
