@@ -11,7 +11,7 @@ use Rattle.laws.specs.Sum.{All}
 use Rattle.laws.specs.Mesh.{Arrow}
 use Rattle.laws.proofs.Tests.{both}
 use Rattle.laws.proofs.Sums.{all-append}
-use Rattle.cube.specs.Cube.{cornerX, cornerY, cornerZ, isAbove, edgeBetween, lowCorner, highCorner, axisOf, crossed as cubeCrossed}
+use Rattle.cube.specs.Cube.{cubeEdgeCount, cornerX, cornerY, cornerZ, isAbove, edgeBetween, lowCorner, highCorner, axisOf, crossed as cubeCrossed}
 use Rattle.cube.specs.Face.{wayRound, faceSegments, segmentsOf}
 use Rattle.cube.proofs.Corners.{corner-of-case}
 use Rattle.cube.proofs.Way.{Ends, ends-crossed}
@@ -36,7 +36,7 @@ onSide : ℕ → Bool → ℕ → ℕ → Bool
 onSide axis last c d =
     let e = edgeBetween c d in
     let low = lowCorner e in
-    ltb e 12
+    ltb e cubeEdgeCount
     && (between e c d && (eqb (along (2 ^ axisOf e) axis) 0 && eqb (choose axis (cornerX low) (cornerY low) (cornerZ low)) (one-if last)))
 
 xor-comm : (a b : Bool) → xor a b ≡ true → xor b a ≡ true
@@ -83,7 +83,7 @@ module _ (n : Size) (above : ℕ → Bool) (x y z : ℕ) (hx : x + 1 < n .nx) (h
           (xor-comm (corner n above x y z c) (corner n above x y z d) differ)
 
   -- its edges on a side at the end of the grid are on the outer face there
-  on-outer-face : (axis : ℕ) (last : Bool) (e : ℕ) → e < 12 → along (2 ^ axisOf e) axis ≡ 0
+  on-outer-face : (axis : ℕ) (last : Bool) (e : ℕ) → e < cubeEdgeCount → along (2 ^ axisOf e) axis ≡ 0
       → choose axis (x + cornerX (lowCorner e)) (y + cornerY (lowCorner e)) (z + cornerZ (lowCorner e)) ≡ cond last (side n axis - 1) 0
       → onFace axes n axis last (gridEdge n x y z e) ≡ true
   unfolding onFace onFaceFrom isOutermost gridEdge cornerSite
@@ -105,10 +105,10 @@ module _ (n : Size) (above : ℕ → Bool) (x y z : ℕ) (hx : x + 1 < n .nx) (h
     edge-on-rim c d h differ =
         let e = edgeBetween c d in
         let low = lowCorner e in
-        let s = both (ltb e 12) _ h in
+        let s = both (ltb e cubeEdgeCount) _ h in
         let t = both (between e c d) _ (s .1) in
         let u = both (eqb (along (2 ^ axisOf e) axis) 0) _ (t .1) in
-        let l = ltb-true e 12 (s .0) in
+        let l = ltb-true e cubeEdgeCount (s .0) in
         record {
           small = grid-edge-small n x y z hx hy hz e l;
           cut = grid-edge-crossed n x y z hx hy hz e l above (edge-crossed e c d (t .0) differ);

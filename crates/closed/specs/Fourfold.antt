@@ -18,8 +18,11 @@ twoCubes = size 2 2 3
 abbrev pub twoCubesSamples : List ℕ
 twoCubesSamples = 100 ∷ 100 ∷ 100 ∷ 100 ∷ 0 ∷ 100 ∷ 100 ∷ 0 ∷ 100 ∷ 100 ∷ 100 ∷ 100 ∷ []
 
+abbrev pub twoCubesGrey : ℕ
+twoCubesGrey = 50
+
 abbrev pub twoCubesAbove : ℕ → Bool
-twoCubesAbove s = isAboveGrey 50 twoCubesSamples s
+twoCubesAbove s = isAboveGrey twoCubesGrey twoCubesSamples s
 
 -- the claim: two points that lie on no common outer face and are joined by a side are joined by two sides in all
 abbrev pub ExactlyTwice : Type 0

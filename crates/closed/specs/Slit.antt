@@ -11,8 +11,11 @@ use Rattle.grid.specs.Point.{number}
 use Rattle.grid.specs.Mesh.{gridEdge, caseAt}
 use Rattle.closed.specs.Fourfold.{twoCubes, twoCubesAbove}
 
+abbrev pub wrongCase : ℕ
+wrongCase = 246
+
 unfoldable pub wrongTriangles : ℕ → List Triangle
-wrongTriangles k = cond (eqb k 246) (map (λ t. triangle (t .one) (t .three) (t .two)) (triangles 9)) (triangles k)
+wrongTriangles k = cond (eqb k wrongCase) (map (λ t. triangle (t .one) (t .three) (t .two)) (triangles 9)) (triangles k)
 
 -- the mesh of the two cubes by that table, else made as every mesh is
 unfoldable pub wrongMesh : List Triangle

@@ -13,18 +13,18 @@ use Rattle.laws.specs.Bits.{bit}
 use Rattle.laws.specs.Mesh.{Arrow, flip, sameArrow, sides, total}
 use Rattle.laws.proofs.Tests.{both, all-at, all-of}
 use Rattle.laws.proofs.Sides.{total-append, total-flip, total-rearranged}
-use Rattle.cube.specs.Cube.{isAbove, crossed, edgeBetween, lowCorner, highCorner}
+use Rattle.cube.specs.Cube.{cases, cubeEdgeCount, isAbove, crossed, edgeBetween, lowCorner, highCorner}
 use Rattle.cube.specs.Face.{cuts, wayRound, faceSegments, segmentsOf}
 use Rattle.cube.specs.Loop.{loops, fan}
 use Rattle.cube.specs.Answer.{segments, triangles}
 
 -- an edge's two corners, and the edge between two corners, are two readings of one numbering
-every-edge-between : allTo 12 (λ e. eqb (edgeBetween (lowCorner e) (highCorner e)) e) ≡ true
+every-edge-between : allTo cubeEdgeCount (λ e. eqb (edgeBetween (lowCorner e) (highCorner e)) e) ≡ true
 unfolding allTo
 every-edge-between = refl
 
-pub edge-between : (e : ℕ) → e < 12 → edgeBetween (lowCorner e) (highCorner e) ≡ e
-edge-between e l = eqb-true _ e (all-at 12 (λ e. eqb (edgeBetween (lowCorner e) (highCorner e)) e) every-edge-between e l)
+pub edge-between : (e : ℕ) → e < cubeEdgeCount → edgeBetween (lowCorner e) (highCorner e) ≡ e
+edge-between e l = eqb-true _ e (all-at cubeEdgeCount (λ e. eqb (edgeBetween (lowCorner e) (highCorner e)) e) every-edge-between e l)
 
 -- how many of the arrows start at edge e, and how many end there
 unfoldable pub starting : ℕ → List Arrow → ℕ
@@ -37,20 +37,20 @@ ending e ss = sumOf (λ s. one-if (eqb (s .to) e)) ss
 edgeOnce : ℕ → ℕ → Bool
 edgeOnce k e = eqb (starting e (segments k)) (one-if (crossed k e)) && eqb (ending e (segments k)) (one-if (crossed k e))
 
-every-edge-once : allTo 256 (λ k. allTo 12 (edgeOnce k)) ≡ true
+every-edge-once : allTo cases (λ k. allTo cubeEdgeCount (edgeOnce k)) ≡ true
 unfolding allTo edgeOnce starting ending sumOf crossed xor segments segmentsOf flatMap faceSegments cuts wayRound isAbove bit
 every-edge-once = refl
 
-pub edge-once : (k e : ℕ) → k < 256 → e < 12
+pub edge-once : (k e : ℕ) → k < cases → e < cubeEdgeCount
     → (starting e (segments k) ≡ one-if (crossed k e)) × (ending e (segments k) ≡ one-if (crossed k e))
 unfolding edgeOnce
 edge-once k e h l =
-    let t = both _ _ (all-at 12 (edgeOnce k) (all-at 256 (λ k. allTo 12 (edgeOnce k)) every-edge-once k h) e l) in
+    let t = both _ _ (all-at cubeEdgeCount (edgeOnce k) (all-at cases (λ k. allTo cubeEdgeCount (edgeOnce k)) every-edge-once k h) e l) in
     (eqb-true _ _ (t .0), eqb-true _ _ (t .1))
 
 -- the sides of a case's triangles join two different crossed edges
 pub record CrossedEdge (k e : ℕ) : Type 0 where
-  pub small : e < 12
+  pub small : e < cubeEdgeCount
   pub cut : crossed k e ≡ true
 
 pub record CrossedSide (k : ℕ) (s : Arrow) : Type 0 where
@@ -59,18 +59,18 @@ pub record CrossedSide (k : ℕ) (s : Arrow) : Type 0 where
   pub apart : s .from ≡ s .to → ⊥
 
 isCrossedEdge : ℕ → ℕ → Bool
-isCrossedEdge k e = ltb e 12 && crossed k e
+isCrossedEdge k e = ltb e cubeEdgeCount && crossed k e
 
 isCrossedSide : ℕ → Arrow → Bool
 isCrossedSide k s = isCrossedEdge k (s .from) && (isCrossedEdge k (s .to) && not (eqb (s .from) (s .to)))
 
-every-side-crossed : allTo 256 (λ k. allOf (isCrossedSide k) (sides (triangles k))) ≡ true
+every-side-crossed : allTo cases (λ k. allOf (isCrossedSide k) (sides (triangles k))) ≡ true
 unfolding allTo allOf isCrossedSide isCrossedEdge crossed xor sides triangles fan loops segments segmentsOf flatMap faceSegments cuts wayRound isAbove bit
 every-side-crossed = refl
 
 crossed-edge : (k e : ℕ) → isCrossedEdge k e ≡ true → CrossedEdge k e
 unfolding isCrossedEdge
-crossed-edge k e h = let t = both (ltb e 12) (crossed k e) h in record { small = ltb-true e 12 (t .0); cut = t .1 }
+crossed-edge k e h = let t = both (ltb e cubeEdgeCount) (crossed k e) h in record { small = ltb-true e cubeEdgeCount (t .0); cut = t .1 }
 
 crossed-side : (k : ℕ) (s : Arrow) → isCrossedSide k s ≡ true → CrossedSide k s
 unfolding isCrossedSide
@@ -83,22 +83,22 @@ crossed-side k s h =
       apart = eqb-false (s .from) (s .to) (not-true (eqb (s .from) (s .to)) (u .1));
     }
 
-pub sides-crossed : (k : ℕ) → k < 256 → All (CrossedSide k) (sides (triangles k))
+pub sides-crossed : (k : ℕ) → k < cases → All (CrossedSide k) (sides (triangles k))
 sides-crossed k h =
     all-of (isCrossedSide k) (CrossedSide k) (crossed-side k) (sides (triangles k))
-    (all-at 256 (λ k. allOf (isCrossedSide k) (sides (triangles k))) every-side-crossed k h)
+    (all-at cases (λ k. allOf (isCrossedSide k) (sides (triangles k))) every-side-crossed k h)
 
 -- the sides with the segments turned round are a rearrangement of the sides turned round with the segments: inside a fan sides cancel, and at
 -- its rim they run as the segments do
 evenCase : List Arrow → List Arrow → Bool
 evenCase ds ss = rearranged sameArrow (ds ++ map flip ss) (map flip ds ++ ss)
 
-every-case-even : allTo 256 (λ k. evenCase (sides (triangles k)) (segments k)) ≡ true
+every-case-even : allTo cases (λ k. evenCase (sides (triangles k)) (segments k)) ≡ true
 unfolding allTo evenCase rearranged isIn without sameArrow sides triangles fan loops segments segmentsOf flatMap faceSegments cuts wayRound isAbove bit
 every-case-even = refl
 
 -- so, whatever an arrow weighs, the surplus of sides one way over sides the other way is that of the segments
-pub case-balance : (k : ℕ) → k < 256 → (w : ℕ → ℕ → ℕ)
+pub case-balance : (k : ℕ) → k < cases → (w : ℕ → ℕ → ℕ)
     → total w (sides (triangles k)) + total (λ i j. w j i) (segments k) ≡ total (λ i j. w j i) (sides (triangles k)) + total w (segments k)
 unfolding evenCase
 case-balance k h w =
@@ -106,7 +106,7 @@ case-balance k h w =
     let ss = segments k in
     omega (
       arith,
-      total-rearranged w (ds ++ map flip ss) (map flip ds ++ ss) (all-at 256 (λ k. evenCase (sides (triangles k)) (segments k)) every-case-even k h),
+      total-rearranged w (ds ++ map flip ss) (map flip ds ++ ss) (all-at cases (λ k. evenCase (sides (triangles k)) (segments k)) every-case-even k h),
       total-append w ds (map flip ss),
       total-append w (map flip ds) ss,
       total-flip w ds,

@@ -4,15 +4,15 @@ use mathlib.Core.List.{[], _∷_, map, flatMap}
 use lib.Dec.{eqb}
 use Rattle.laws.specs.Range.{countTo, sumTo}
 use Rattle.laws.specs.Bits.{bit}
-use Rattle.cube.specs.Cube.{isAbove}
+use Rattle.cube.specs.Cube.{cases, isAbove}
 use Rattle.cube.specs.Face.{cuts, wayRound, faceSegments, segmentsOf}
 use Rattle.cube.specs.Loop.{loops, fan}
 use Rattle.cube.specs.Answer.{segments, triangles, count}
 
-pub classes : map (λ n. countTo 256 (λ k. eqb (count k) n)) (0 ∷ 1 ∷ 2 ∷ 3 ∷ 4 ∷ 5 ∷ []) ≡ 2 ∷ 16 ∷ 50 ∷ 80 ∷ 76 ∷ 32 ∷ []
+pub classes : map (λ n. countTo cases (λ k. eqb (count k) n)) (0 ∷ 1 ∷ 2 ∷ 3 ∷ 4 ∷ 5 ∷ []) ≡ 2 ∷ 16 ∷ 50 ∷ 80 ∷ 76 ∷ 32 ∷ []
 unfolding countTo sumTo count triangles flatMap fan loops segments segmentsOf faceSegments cuts wayRound isAbove bit
 classes = refl
 
-pub in-all : sumTo 256 count ≡ 820
+pub in-all : sumTo cases count ≡ 820
 unfolding sumTo count triangles flatMap fan loops segments segmentsOf faceSegments cuts wayRound isAbove bit
 in-all = refl

@@ -7,7 +7,7 @@ use native.Mathlib.Omega.{arith}
 use lib.Dec.{lit<}
 use lib.ListN.{getD}
 use Rattle.laws.proofs.Binary.{bits-small, bit-of-bits}
-use Rattle.cube.specs.Cube.{caseOf, isAbove, edgeBetween}
+use Rattle.cube.specs.Cube.{cases, caseOf, isAbove, edgeBetween}
 use Rattle.cube.specs.Face.{wayRound, faceSegments, segmentsOf}
 use Rattle.cube.specs.Answer.{cubeFaces, segments}
 
@@ -15,7 +15,7 @@ module _ (above : ℕ → Bool) where
   abbrev corners : List Bool
   corners = above 0 ∷ above 1 ∷ above 2 ∷ above 3 ∷ above 4 ∷ above 5 ∷ above 6 ∷ above 7 ∷ []
 
-  pub case-small : caseOf above < 256
+  pub case-small : caseOf above < cases
   unfolding caseOf
   case-small = bits-small corners
 

@@ -6,39 +6,40 @@ use native.Mathlib.Omega.{arith}
 use lib.ListN.{length, getD}
 use Rattle.laws.specs.Threes.{threeAt}
 use Rattle.laws.proofs.Rows.{entry-at}
-use Rattle.cube.specs.Answer.{count, countTable, cornersAt, answer, row, table}
+use Rattle.cube.specs.Answer.{caseLength, count, countTable, cornersAt, answer, row, table}
+use Rattle.cube.specs.Cube.{cases}
 
-pub length-row : (k : ℕ) → length (row k) ≡ 15
+pub length-row : (k : ℕ) → length (row k) ≡ caseLength
 unfolding row flatten answer cornersAt
 length-row k = refl
 
-pub entry : (k i : ℕ) → k < 256 → i < 15 → getD table (k * 15 + i) 0 ≡ getD (row k) i 0
+pub entry : (k i : ℕ) → k < cases → i < caseLength → getD table (k * caseLength + i) 0 ≡ getD (row k) i 0
 unfolding table
-entry k i h l = entry-at 15 row length-row 256 k i 0 h l
+entry k i h l = entry-at caseLength row length-row cases k i 0 h l
 
-entry-from : (k i at : ℕ) → k < 256 → i < 15 → at ≡ k * 15 + i → getD table at 0 ≡ getD (row k) i 0
+entry-from : (k i at : ℕ) → k < cases → i < caseLength → at ≡ k * caseLength + i → getD table at 0 ≡ getD (row k) i 0
 entry-from k i at h l e = ap (λ n. getD table n 0) e ∙ entry k i h l
 
-pub three-at : (k i at : ℕ) → k < 256 → i + 2 < 15 → at ≡ k * 15 + i → threeAt table at ≡ threeAt (row k) i
+pub three-at : (k i at : ℕ) → k < cases → i + 2 < caseLength → at ≡ k * caseLength + i → threeAt table at ≡ threeAt (row k) i
 three-at k i at h l e =
     rw (entry-from k i at h (omega arith) e, entry-from k (i + 1) (at + 1) h (omega arith) (omega arith), entry-from k (i + 2) (at + 2) h (omega arith) (omega arith))
 
-pub count-at : (k : ℕ) → k < 256 → getD countTable k 0 ≡ count k
+pub count-at : (k : ℕ) → k < cases → getD countTable k 0 ≡ count k
 unfolding countTable
 count-at k h =
     let e : k ≡ k * 1 + 0 = omega arith in
-    ap (λ n. getD countTable n 0) e ∙ entry-at 1 (λ k. count k ∷ []) (λ k. refl) 256 k 0 0 h (omega arith)
+    ap (λ n. getD countTable n 0) e ∙ entry-at 1 (λ k. count k ∷ []) (λ k. refl) cases k 0 0 h (omega arith)
 
 -- five readings of three are the case's answer
-pub answer-read : (k : ℕ) → k < 256 → (rows a b c d e : List ℕ) → rows ≡ table → a ≡ threeAt rows (k * 15) → b ≡ threeAt rows (k * 15 + 3)
-    → c ≡ threeAt rows (k * 15 + 6) → d ≡ threeAt rows (k * 15 + 9) → e ≡ threeAt rows (k * 15 + 12) → a ∷ b ∷ c ∷ d ∷ e ∷ [] ≡ answer k
+pub answer-read : (k : ℕ) → k < cases → (rows a b c d e : List ℕ) → rows ≡ table → a ≡ threeAt rows (k * caseLength) → b ≡ threeAt rows (k * caseLength + 3)
+    → c ≡ threeAt rows (k * caseLength + 6) → d ≡ threeAt rows (k * caseLength + 9) → e ≡ threeAt rows (k * caseLength + 12) → a ∷ b ∷ c ∷ d ∷ e ∷ [] ≡ answer k
 unfolding row flatten answer cornersAt
 answer-read k h rows a b c d e t p q r s u =
     rw (p, q, r, s, u, t)
     (rw (
-      three-at k 0 (k * 15) h (omega arith) (omega arith),
-      three-at k 3 (k * 15 + 3) h (omega arith) refl,
-      three-at k 6 (k * 15 + 6) h (omega arith) refl,
-      three-at k 9 (k * 15 + 9) h (omega arith) refl,
-      three-at k 12 (k * 15 + 12) h (omega arith) refl,
+      three-at k 0 (k * caseLength) h (omega arith) (omega arith),
+      three-at k 3 (k * caseLength + 3) h (omega arith) refl,
+      three-at k 6 (k * caseLength + 6) h (omega arith) refl,
+      three-at k 9 (k * caseLength + 9) h (omega arith) refl,
+      three-at k 12 (k * caseLength + 12) h (omega arith) refl,
     ))

@@ -14,6 +14,19 @@ use lib.Ieee.Order.{round-mono}
 use lib.Ieee.Positive.{through}
 use Rattle.measures.specs.Vectors.{whole}
 
+-- a binary64 number has 53 binary digits, the least above 0 is 2^-1074, all finite ones are below 2^1024, and no bound here goes further than 2^900 times a whole number
+abbrev precision : ℕ
+precision = 53
+
+abbrev pub lowest : ℕ
+lowest = 1074
+
+abbrev pub highest : ℕ
+highest = 1024
+
+abbrev pub furthest : ℕ
+furthest = 900
+
 -- neither a NaN nor an infinity, and no larger in size than q·2^j
 abbrev pub AtMost : ℕ → ℕ → Float → Type 0
 AtMost q j nan = ⊥
@@ -89,13 +102,13 @@ under q j (fin false m e) (fin false n d) s v h =
     rw (mul-one (m * up e)) at (through (m * up e) (n * up d) (q * 2 ^ j) (down e) (down d) 1 (down-pos d) (ordered m n e d h) (le-of-eq (v .1)))
 
 -- a bound is a binary64 number, of 53 digits at most and far below 2^1024
-bound-value : (q j : ℕ) → q < 2 ^ 53 → j ≤ 900 → HasValue (round binary64 false (q * 2 ^ j) 1) false (q * 2 ^ j) 1
+bound-value : (q j : ℕ) → q < 2 ^ 53 → j ≤ furthest → HasValue (round binary64 false (q * 2 ^ j) 1) false (q * 2 ^ j) 1
 bound-value q j hq hj =
-    round-exact binary64 false (q * 2 ^ j) 1 q (j + 1074) (omega arith) hq
-    (le-trans (shl-lt {a = q} 53 (j + 1074) hq) (pow-mono {i = 53 + (j + 1074)} {j = 1074 + 1024} (omega arith)))
-    (rw (pow-add 2 j 1074, mul-one, mul-assoc))
+    round-exact binary64 false (q * 2 ^ j) 1 q (j + lowest) (omega arith) hq
+    (le-trans (shl-lt {a = q} precision (j + lowest) hq) (pow-mono {i = precision + (j + lowest)} {j = lowest + highest} (omega arith)))
+    (rw (pow-add 2 j lowest, mul-one, mul-assoc))
 
-pub round-at-most : (s : Bool) (q j a c : ℕ) → q < 2 ^ 53 → j ≤ 900 → 0 < c → a ≤ q * 2 ^ j * c → AtMost q j (round binary64 s a c)
+pub round-at-most : (s : Bool) (q j a c : ℕ) → q < 2 ^ 53 → j ≤ furthest → 0 < c → a ≤ q * 2 ^ j * c → AtMost q j (round binary64 s a c)
 round-at-most s q j a c hq hj hc h =
     round-unsigned s q j a c
     (under q j (round binary64 false a c) (round binary64 false (q * 2 ^ j) 1) (round-sign false a c) (bound-value q j hq hj)
@@ -107,13 +120,13 @@ at-most-more q j r k (inf s) l h = absurd h
 at-most-more q j r k (fin s m e) l h = le-trans h (mul-le-mul-right (down e) l)
 
 -- a whole number
-pub whole-at-most : (q j : ℕ) (z : ℤ) → q < 2 ^ 53 → j ≤ 900 → natAbs z ≤ q * 2 ^ j → AtMost q j (whole z)
+pub whole-at-most : (q j : ℕ) (z : ℤ) → q < 2 ^ 53 → j ≤ furthest → natAbs z ≤ q * 2 ^ j → AtMost q j (whole z)
 unfolding ofInt
 whole-at-most q j (pos n) hq hj h = round-at-most false q j n 1 hq hj (omega arith) (rw (mul-one (q * 2 ^ j)) h)
 whole-at-most q j (negsuc n) hq hj h = round-at-most true q j (suc n) 1 hq hj (omega arith) (rw (mul-one (q * 2 ^ j)) h)
 
 -- a sum, of any signs
-sum-at-most : (s t : Bool) (q j a b c : ℕ) → q < 2 ^ 53 → j ≤ 900 → 0 < c → a + b ≤ q * 2 ^ j * c → AtMost q j (sum binary64 s a t b c)
+sum-at-most : (s t : Bool) (q j a b c : ℕ) → q < 2 ^ 53 → j ≤ furthest → 0 < c → a + b ≤ q * 2 ^ j * c → AtMost q j (sum binary64 s a t b c)
 unfolding sum
 sum-at-most s t q j a b c hq hj hc h =
     either (AtMost q j) (Bool·beq s t) (round binary64 s (a + b) c) (cond (ltb a b) (round binary64 t (b - a) c) (round binary64 (s && ltb b a) (a - b) c))
@@ -129,7 +142,7 @@ cross-sum u v d e Q R h k =
     let b : v * d ≤ R * (d * e) = rw (mul-assoc R e d, mul-comm e d) at (mul-le-mul-right d k) in
     omega (arith, a, b, add-mul Q R (d * e))
 
-pub add-at-most : (q r j : ℕ) (x y : Float) → q + r < 2 ^ 53 → j ≤ 900 → AtMost q j x → AtMost r j y → AtMost (q + r) j (add binary64 x y)
+pub add-at-most : (q r j : ℕ) (x y : Float) → q + r < 2 ^ 53 → j ≤ furthest → AtMost q j x → AtMost r j y → AtMost (q + r) j (add binary64 x y)
 unfolding add
 add-at-most q r j nan y hq hj h k = absurd h
 add-at-most q r j (inf s) y hq hj h k = absurd h
@@ -144,7 +157,7 @@ cross-product u v d e i j h k =
     let powers : 1 * 2 ^ i * d * (1 * 2 ^ j * e) ≡ 1 * 2 ^ (i + j) * (d * e) = rw (one-mul (2 ^ i), one-mul (2 ^ j), one-mul (2 ^ (i + j)), pow-add 2 i j) (mul-mul-mul-comm (2 ^ i) d (2 ^ j) e) in
     rw powers at (mul-le-mul {n₁ = u} {m₁ = v} {n₂ = 1 * 2 ^ i * d} {m₂ = 1 * 2 ^ j * e} h k)
 
-pub mul-at-most : (i j : ℕ) (x y : Float) → i + j ≤ 900 → AtMost 1 i x → AtMost 1 j y → AtMost 1 (i + j) (mul binary64 x y)
+pub mul-at-most : (i j : ℕ) (x y : Float) → i + j ≤ furthest → AtMost 1 i x → AtMost 1 j y → AtMost 1 (i + j) (mul binary64 x y)
 unfolding mul
 mul-at-most i j nan y l h k = absurd h
 mul-at-most i j (inf s) y l h k = absurd h

@@ -25,7 +25,7 @@ use Rattle.sums.specs.Sums.{Sum}
 use Rattle.curvature.specs.Answers.{answerOf, answerFrom, storedVector}
 use Rattle.curvature.specs.Curved.{Outcome, sumsFor, answerFor, granted}
 use Rattle.curvature.specs.Promise.{Curves}
-use Rattle.finite.proofs.AtMost.{AtMost, at-most-more, mul-at-most}
+use Rattle.finite.proofs.AtMost.{furthest, AtMost, at-most-more, mul-at-most}
 use Rattle.finite.proofs.AtLeast.{AtLeast, Grain, mul-at-least}
 use Rattle.finite.proofs.Quotient.{div-at-most}
 use Rattle.finite.proofs.Cotangents.{power-most, power-least}
@@ -53,7 +53,7 @@ abbrev storedDigits : ℕ
 storedDigits = vectorDigits + shareGrain
 
 -- so the last division is by no less than the least share
-over-most : (q j l : ℕ) (v : Vector) (k : Float) → q < 2 ^ 53 → j + l ≤ 900 → VectorMost q j v → AtLeast l k → VectorMost q (j + l) (over v k)
+over-most : (q j l : ℕ) (v : Vector) (k : Float) → q < 2 ^ 53 → j + l ≤ furthest → VectorMost q j v → AtLeast l k → VectorMost q (j + l) (over v k)
 unfolding over
 over-most q j l v k hq hj h a =
     record {

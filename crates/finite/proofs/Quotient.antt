@@ -14,7 +14,7 @@ use lib.Ieee.Exact.{HasValue}
 use lib.Ieee.Order.{transfer}
 use lib.Ieee.Positive.{first-pos}
 use borrow.Author.Tests.{ne-eqb}
-use Rattle.finite.proofs.AtMost.{AtMost, round-at-most}
+use Rattle.finite.proofs.AtMost.{lowest, furthest, AtMost, round-at-most}
 use Rattle.finite.proofs.AtLeast.{AtLeast, Grained, Grain, round-at-least, round-grain}
 
 -- a number of that size is not 0
@@ -30,7 +30,7 @@ quotient-most q j l u v d e h g =
     let same : q * 2 ^ j * d * (v * 2 ^ l) ≡ q * 2 ^ (j + l) * (v * d) = simp (pow-add, mul-assoc, mul-comm, mul-left-comm) in
     rw same at (mul-le-mul {n₁ = u} {m₁ = e} {n₂ = q * 2 ^ j * d} {m₂ = v * 2 ^ l} h g)
 
-pub div-at-most : (q j l : ℕ) (x y : Float) → q < 2 ^ 53 → j + l ≤ 900 → AtMost q j x → AtLeast l y → AtMost q (j + l) (div binary64 x y)
+pub div-at-most : (q j l : ℕ) (x y : Float) → q < 2 ^ 53 → j + l ≤ furthest → AtMost q j x → AtLeast l y → AtMost q (j + l) (div binary64 x y)
 unfolding div
 div-at-most q j l nan y hq hj h g = absurd h
 div-at-most q j l (inf s) y hq hj h g = absurd h
@@ -48,7 +48,7 @@ grained-quotient l j u v d e (inr h) g =
     let same : 1 * 2 ^ j * e * (u * 2 ^ l) ≡ u * e * 2 ^ (l + j) = rw one-mul (simp (pow-add, mul-assoc, mul-comm, mul-left-comm)) in
     inr (rw same at (mul-le-mul {n₁ = v} {m₁ = d} {n₂ = 1 * 2 ^ j * e} {m₂ = u * 2 ^ l} g h))
 
-pub div-grain : (l j k q i : ℕ) (x y : Float) → l + j ≤ 1074 → Grain l x → AtMost 1 j y → AtLeast k y → AtMost q i (div binary64 x y) → Grain (l + j) (div binary64 x y)
+pub div-grain : (l j k q i : ℕ) (x y : Float) → l + j ≤ lowest → Grain l x → AtMost 1 j y → AtLeast k y → AtMost q i (div binary64 x y) → Grain (l + j) (div binary64 x y)
 unfolding div
 div-grain l j k q i nan y hl h g a f = absurd h
 div-grain l j k q i (inf s) y hl h g a f = absurd h

@@ -10,7 +10,7 @@ use borrow.Author.Tests.{leb-true, eqb-true, eqb-false}
 use lib.ListN.{take}
 use lib.Seq.{take-take}
 use Rattle.grid.specs.Limits.{mostSmall, mostNumber}
-use Rattle.lines.specs.Decimal.{isDigit}
+use Rattle.lines.specs.Decimal.{digitZero, isDigit}
 use Rattle.reading.specs.Reading.{Got, bad, got, after, digitsOn, readNumber, endedBy, readField, readRow, GotRows, lineThen, readRows}
 use Rattle.lines.specs.Line.{tab, endOf}
 use Rattle.gridtext.specs.Grid.{longestHead, letterG, headOf, readHead, headNumber, withHead, readGrid, mostRead}
@@ -52,13 +52,13 @@ zeros-more zero n m l = l
 zeros-more (suc j) n m l = zeros-more j (10 * n) (10 * m) (omega arith)
 
 -- one byte behind n
-digit-enough : (most m k n b : ℕ) (bs : List ℕ) → k ≤ m → (10 * n + (b - 48) ≤ most → Enough m (suc k) (digitsOn most (10 * n + (b - 48))))
+digit-enough : (most m k n b : ℕ) (bs : List ℕ) → k ≤ m → (10 * n + (b - digitZero) ≤ most → Enough m (suc k) (digitsOn most (10 * n + (b - digitZero))))
     → cut (suc k) (digitsOn most n (b ∷ take m bs)) ≡ cut (suc k) (digitsOn most n (b ∷ bs))
 unfolding digitsOn cut
-digit-enough most m k n b bs l further = go (isDigit b) refl (leb (10 * n + (b - 48)) most) refl
+digit-enough most m k n b bs l further = go (isDigit b) refl (leb (10 * n + (b - digitZero)) most) refl
   where
-    go : (t : Bool) → isDigit b ≡ t → (u : Bool) → leb (10 * n + (b - 48)) most ≡ u → cut (suc k) (digitsOn most n (b ∷ take m bs)) ≡ cut (suc k) (digitsOn most n (b ∷ bs))
-    go true e true f = rw (e, f) (further (leb-true (10 * n + (b - 48)) most f) bs)
+    go : (t : Bool) → isDigit b ≡ t → (u : Bool) → leb (10 * n + (b - digitZero)) most ≡ u → cut (suc k) (digitsOn most n (b ∷ take m bs)) ≡ cut (suc k) (digitsOn most n (b ∷ bs))
+    go true e true f = rw (e, f) (further (leb-true (10 * n + (b - digitZero)) most f) bs)
     go true e false f = rw (e, f)
     go false e u f = rw (e, take-take k m bs l)
 
@@ -69,22 +69,22 @@ digits-enough most j zero k n l o bs = absurd (omega arith)
 digits-enough most j (suc m) k n l o [] = refl
 digits-enough most zero (suc m) k n l o (b ∷ bs) = digit-enough most m k n b bs (omega arith) (λ h. absurd (omega arith))
 digits-enough most (suc j) (suc m) k n l o (b ∷ bs) =
-    let z = zeros-more j (10 * (10 * n)) (10 * (10 * n + (b - 48))) (omega arith) in
-    digit-enough most m k n b bs (omega arith) (λ h. digits-enough most j m k (10 * n + (b - 48)) (omega arith) (omega arith))
+    let z = zeros-more j (10 * (10 * n)) (10 * (10 * n + (b - digitZero))) (omega arith) in
+    digit-enough most m k n b bs (omega arith) (λ h. digits-enough most j m k (10 * n + (b - digitZero)) (omega arith) (omega arith))
 
 -- a number of at most five digits, and the byte behind it
 number-enough : (m k : ℕ) → k + 6 ≤ m → Enough m (suc k) (readNumber mostNumber)
 unfolding readNumber zeros
 number-enough zero k l bs = absurd (omega arith)
 number-enough (suc m) k l [] = refl
-number-enough (suc m) k l (b ∷ bs) = go (eqb b 48) refl (isDigit b) refl
+number-enough (suc m) k l (b ∷ bs) = go (eqb b digitZero) refl (isDigit b) refl
   where
-    go : (t : Bool) → eqb b 48 ≡ t → (u : Bool) → isDigit b ≡ u → cut (suc k) (readNumber mostNumber (b ∷ take m bs)) ≡ cut (suc k) (readNumber mostNumber (b ∷ bs))
+    go : (t : Bool) → eqb b digitZero ≡ t → (u : Bool) → isDigit b ≡ u → cut (suc k) (readNumber mostNumber (b ∷ take m bs)) ≡ cut (suc k) (readNumber mostNumber (b ∷ bs))
     go true e u f = rw e (got-enough m (suc k) 0 (omega arith) bs)
     go false e true f =
         let s = of-digit b f in
-        let z = eqb-false b 48 e in
-        rw (e, f) (digits-enough mostNumber 4 m k (b - 48) (omega arith) (omega arith) bs)
+        let z = eqb-false b digitZero e in
+        rw (e, f) (digits-enough mostNumber 4 m k (b - digitZero) (omega arith) (omega arith) bs)
     go false e false f = rw (e, f)
 
 end-enough : (end k n : ℕ) → Enough (suc k) k (endedBy end n)

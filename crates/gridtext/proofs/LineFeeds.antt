@@ -13,7 +13,7 @@ use Rattle.laws.proofs.Sums.{sum-append}
 use Rattle.grid.proofs.Sides.{sides-within}
 use Rattle.lines.specs.Decimal.{digit, decimalTo, decimal}
 use Rattle.lines.specs.Line.{tab, lineFeed, endOf, line}
-use Rattle.gridtext.specs.Grid.{headNumber}
+use Rattle.gridtext.specs.Grid.{letterG, headNumber}
 use Rattle.gridtext.specs.GridText.{headText}
 use Rattle.gridtext.specs.Malformed.{RowThen, RowsThen, none, row, FirstMalformed, HeadThen}
 use Rattle.gridtext.specs.declared.Head.{Head}
@@ -69,7 +69,7 @@ unfolding headText
 head-feeds text rest h t =
     let ns = h .ny ∷ h .nz ∷ h .grey ∷ h .rounds ∷ h .weight ∷ [] in
     ap lineFeeds (t .written)
-    ∙ other-first 71 (tab ∷ (line (h .nx ∷ ns) ++ rest)) (λ q. omega arith)
+    ∙ other-first letterG (tab ∷ (line (h .nx ∷ ns) ++ rest)) (λ q. omega arith)
     ∙ other-first tab (line (h .nx ∷ ns) ++ rest) (λ q. omega arith)
     ∙ feeds-in (line (h .nx ∷ ns)) rest
     ∙ ap (λ k. k + lineFeeds rest) (line-feeds (h .nx) ns)

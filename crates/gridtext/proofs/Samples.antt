@@ -17,7 +17,7 @@ use Rattle.grid.proofs.Sides.{sides-within}
 use Rattle.reading.specs.Reading.{bad, got, after, readRow, GotRows, malformed, rows}
 use Rattle.reading.specs.Answers.{answeredRows}
 use Rattle.gridtext.specs.Promise.{samplesFilled}
-use Rattle.gridtext.specs.Grid.{headOf, readHead}
+use Rattle.gridtext.specs.Grid.{letterG, headOf, readHead}
 use Rattle.gridtext.specs.declared.Head.{Head}
 
 -- a copy to the front of a room, number by number
@@ -44,11 +44,11 @@ head-short [] l = refl
 head-short (b ∷ []) l = refl
 head-short (b ∷ c ∷ bs) l = absurd (omega arith)
 
-pub head-other : (input : List ℕ) → 2 ≤ length input → (getD input 0 0 ≡ 71 → ⊥) → readHead input ≡ bad
+pub head-other : (input : List ℕ) → 2 ≤ length input → (getD input 0 0 ≡ letterG → ⊥) → readHead input ≡ bad
 unfolding readHead
 head-other [] l ne = refl
 head-other (b ∷ []) l ne = refl
-head-other (b ∷ c ∷ bs) l ne = rw (ne-eqb b 71 ne)
+head-other (b ∷ c ∷ bs) l ne = rw (ne-eqb b letterG ne)
 
 pub head-untabbed : (input : List ℕ) → 2 ≤ length input → (getD input 1 0 ≡ 9 → ⊥) → readHead input ≡ bad
 unfolding readHead
@@ -56,11 +56,11 @@ head-untabbed [] l ne = refl
 head-untabbed (b ∷ []) l ne = refl
 head-untabbed (b ∷ c ∷ bs) l ne = rw (ne-eqb c 9 ne, and-false)
 
-head-row : (input : List ℕ) → 2 ≤ length input → getD input 0 0 ≡ 71 → getD input 1 0 ≡ 9 → readHead input ≡ after (λ ns rest. got (headOf ns) rest) (readRow mostNumber 6 (drop 2 input))
+head-row : (input : List ℕ) → 2 ≤ length input → getD input 0 0 ≡ letterG → getD input 1 0 ≡ 9 → readHead input ≡ after (λ ns rest. got (headOf ns) rest) (readRow mostNumber 6 (drop 2 input))
 unfolding readHead
 head-row [] l g t = absurd (omega arith)
 head-row (b ∷ []) l g t = absurd (omega arith)
-head-row (b ∷ c ∷ bs) l g t = rw (eq-eqb b 71 g, eq-eqb c 9 t)
+head-row (b ∷ c ∷ bs) l g t = rw (eq-eqb b letterG g, eq-eqb c 9 t)
 
 six : (ns : List ℕ) → headOf (take 6 ns) ≡ headOf ns
 unfolding headOf
@@ -69,7 +69,7 @@ six ns = rw (field 0 (omega arith), field 1 (omega arith), field 2 (omega arith)
     field : (i : ℕ) → i < 6 → getD (take 6 ns) i 0 ≡ getD ns i 0
     field i l = getD-take 6 ns i 0 l
 
-module _ (input : List ℕ) (l : 2 ≤ length input) (g : getD input 0 0 ≡ 71) (t : getD input 1 0 ≡ 9) where
+module _ (input : List ℕ) (l : 2 ≤ length input) (g : getD input 0 0 ≡ letterG) (t : getD input 1 0 ≡ 9) where
   pub head-stops : readRow mostNumber 6 (drop 2 input) ≡ bad → readHead input ≡ bad
   unfolding after
   head-stops e = rw (head-row input l g t, e)

@@ -8,18 +8,18 @@ use native.Mathlib.Omega.{arith}
 use lib.Dec.{leb}
 use borrow.Author.Tests.{lt-ltb, le-ltb, le-leb, leb-true}
 use Rattle.laws.proofs.Tests.{both}
-use Rattle.lines.specs.Decimal.{digit, isDigit, decimalTo, decimal}
+use Rattle.lines.specs.Decimal.{digitZero, digit, isDigit, decimalTo, decimal}
 
 -- a digit is a byte from 48 to 57
 pub digit-of : (d : ℕ) → d < 10 → isDigit (digit d) ≡ true
 unfolding isDigit
-digit-of d l = rw (le-leb 48 (digit d) (omega arith), le-leb (digit d) 57 (omega arith))
+digit-of d l = rw (le-leb digitZero (digit d) (omega arith), le-leb (digit d) (digit 9) (omega arith))
 
-pub of-digit : (b : ℕ) → isDigit b ≡ true → (48 ≤ b) × (b ≤ 57)
+pub of-digit : (b : ℕ) → isDigit b ≡ true → (digitZero ≤ b) × (b ≤ (digit 9))
 unfolding isDigit
 of-digit b h =
-    let s = both (leb 48 b) (leb b 57) h in
-    (leb-true 48 b (s .0), leb-true b 57 (s .1))
+    let s = both (leb digitZero b) (leb b (digit 9)) h in
+    (leb-true digitZero b (s .0), leb-true b (digit 9) (s .1))
 
 -- one digit, and more than one
 pub one-digit : (k n : ℕ) → n < 10 → decimalTo (suc k) n ≡ digit n ∷ []

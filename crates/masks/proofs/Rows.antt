@@ -34,7 +34,7 @@ module _ (f : ℕ → Bool) where
       rw (a, b)
 
   -- eight values more
-  pub mask-eight : (x n : ℕ) → 8 ≤ x → x ≤ n → bits (valuesFrom f (x - 8) 8) + 256 * maskFrom f x n ≡ maskFrom f (x - 8) n
+  pub mask-eight : (x n : ℕ) → 8 ≤ x → x ≤ n → bits (valuesFrom f (x - 8) 8) + 2 ^ 8 * maskFrom f x n ≡ maskFrom f (x - 8) n
   unfolding maskFrom
   mask-eight x n h l =
       let a : n - (x - 8) ≡ 8 + (n - x) = omega arith in
@@ -64,7 +64,7 @@ unfolding rowMask maskFrom rowAbove bits valuesFrom
 pair-of grey samples at = rw (add-zero at) (omega arith)
 
 pub eight-of-pairs : (grey : ℕ) (samples : List ℕ) (at : ℕ)
-    → rowMask grey samples at 2 + 4 * rowMask grey samples (at + 2) 2 + 16 * (rowMask grey samples (at + 4) 2 + 4 * rowMask grey samples (at + 6) 2)
+    → rowMask grey samples at 2 + 4 * rowMask grey samples (at + 2) 2 + 2 ^ 4 * (rowMask grey samples (at + 4) 2 + 4 * rowMask grey samples (at + 6) 2)
     ≡ rowMask grey samples at 8
 unfolding rowMask maskFrom rowAbove bits valuesFrom
 eight-of-pairs grey samples at = simp (add-assoc, add-zero) (omega arith)

@@ -6,7 +6,7 @@ use Prim.Native.Nat.{ℕ, _+_, _*_, _-_, _≤_, _<_}
 use native.Mathlib.Omega.{arith}
 use borrow.Author.Tests.{eq-eqb, ne-eqb}
 use lib.ListN.{length, getD, drop, drop-of-length-le}
-use Rattle.lines.specs.Decimal.{isDigit}
+use Rattle.lines.specs.Decimal.{digitZero, isDigit}
 use Rattle.reading.specs.Reading.{Got, bad, got, digitsOn, readNumber, after, endedBy, readField}
 use Rattle.reading.specs.Answers.{answered, Reads, answeredLine}
 use Rattle.reading.specs.declared.Field.{Field}
@@ -45,10 +45,10 @@ module _ (most v : ℕ) (input : List ℕ) (at : ℕ) where
     digits-stop-at h = rw (byte-at input at l) (digits-stop most v (getD input at 0) (drop (at + 1) input) h)
 
     module _ (h : isDigit (getD input at 0) ≡ true) where
-      pub digits-over-at : most < 10 * v + (getD input at 0 - 48) → digitsOn most v (drop at input) ≡ bad
+      pub digits-over-at : most < 10 * v + (getD input at 0 - digitZero) → digitsOn most v (drop at input) ≡ bad
       digits-over-at o = rw (byte-at input at l) (digits-over most v (getD input at 0) (drop (at + 1) input) h o)
 
-      pub digits-next-at : 10 * v + (getD input at 0 - 48) ≤ most → digitsOn most v (drop at input) ≡ digitsOn most (10 * v + (getD input at 0 - 48)) (drop (at + 1) input)
+      pub digits-next-at : 10 * v + (getD input at 0 - digitZero) ≤ most → digitsOn most v (drop at input) ≡ digitsOn most (10 * v + (getD input at 0 - digitZero)) (drop (at + 1) input)
       digits-next-at o = rw (byte-at input at l) (digits-next most v (getD input at 0) (drop (at + 1) input) h o)
 
 module _ (most : ℕ) (input : List ℕ) (at : ℕ) where
@@ -56,14 +56,14 @@ module _ (most : ℕ) (input : List ℕ) (at : ℕ) where
   number-end-at l = rw (drop-of-length-le input l) (number-empty most)
 
   module _ (l : at < length input) where
-    pub number-zero-at : getD input at 0 ≡ 48 → readNumber most (drop at input) ≡ got 0 (drop (at + 1) input)
+    pub number-zero-at : getD input at 0 ≡ digitZero → readNumber most (drop at input) ≡ got 0 (drop (at + 1) input)
     number-zero-at e = rw (byte-at input at l) (number-zero most (getD input at 0) (drop (at + 1) input) e)
 
-    module _ (ne : getD input at 0 ≡ 48 → ⊥) where
+    module _ (ne : getD input at 0 ≡ digitZero → ⊥) where
       pub number-none-at : isDigit (getD input at 0) ≡ false → readNumber most (drop at input) ≡ bad
       number-none-at h = rw (byte-at input at l) (number-none most (getD input at 0) (drop (at + 1) input) ne h)
 
-      pub number-starts-at : isDigit (getD input at 0) ≡ true → readNumber most (drop at input) ≡ digitsOn most (getD input at 0 - 48) (drop (at + 1) input)
+      pub number-starts-at : isDigit (getD input at 0) ≡ true → readNumber most (drop at input) ≡ digitsOn most (getD input at 0 - digitZero) (drop (at + 1) input)
       number-starts-at h = rw (byte-at input at l) (number-starts most (getD input at 0) (drop (at + 1) input) ne h)
 
 -- a number and the byte behind it

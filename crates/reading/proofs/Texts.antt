@@ -14,7 +14,7 @@ use Rattle.laws.specs.Range.{joinTo}
 use Rattle.laws.specs.Sum.{All}
 use Rattle.laws.proofs.Sums.{all-append}
 use Rattle.laws.proofs.Ranges.{all-entries, join-cong, join-zero, join-first}
-use Rattle.lines.specs.Decimal.{decimal, isDigit}
+use Rattle.lines.specs.Decimal.{digitZero, decimal, isDigit}
 use Rattle.reading.specs.Reading.{Got, bad, got, after, digitsOn, readNumber, endedBy, readField, readRow, GotRows, malformed, rows, ahead, lineThen, readRows}
 use Rattle.lines.specs.Line.{endOf, line}
 use Rattle.reading.proofs.Digits.{never, digits-stop, digits-over, digits-next, digits-done, number-empty, number-zero, number-none, number-starts, number-written, number-read}
@@ -54,31 +54,31 @@ digits-within most v n [] rest l h = same (sym (digits-done most v [] tt) ∙ h)
     same : got v [] ≡ got n rest → n ≤ most
     same e = let q : v ≡ n = cc in omega arith
 digits-within most v n (b ∷ bs) rest l h =
-    go (isDigit b) refl (leb (10 * v + (b - 48)) most) refl (λ m. digits-within most (10 * v + (b - 48)) n bs rest m)
+    go (isDigit b) refl (leb (10 * v + (b - digitZero)) most) refl (λ m. digits-within most (10 * v + (b - digitZero)) n bs rest m)
   where
     same : got v (b ∷ bs) ≡ got n rest → n ≤ most
     same e = let q : v ≡ n = cc in omega arith
 
-    go : (t : Bool) → isDigit b ≡ t → (u : Bool) → leb (10 * v + (b - 48)) most ≡ u
-        → (10 * v + (b - 48) ≤ most → digitsOn most (10 * v + (b - 48)) bs ≡ got n rest → n ≤ most) → n ≤ most
+    go : (t : Bool) → isDigit b ≡ t → (u : Bool) → leb (10 * v + (b - digitZero)) most ≡ u
+        → (10 * v + (b - digitZero) ≤ most → digitsOn most (10 * v + (b - digitZero)) bs ≡ got n rest → n ≤ most) → n ≤ most
     go false e u f further = same (sym (digits-stop most v b bs e) ∙ h)
     go true e true f further =
-        let m = leb-true (10 * v + (b - 48)) most f in
+        let m = leb-true (10 * v + (b - digitZero)) most f in
         further m (sym (digits-next most v b bs e m) ∙ h)
-    go true e false f further = never (sym (digits-over most v b bs e (leb-false (10 * v + (b - 48)) most f)) ∙ h)
+    go true e false f further = never (sym (digits-over most v b bs e (leb-false (10 * v + (b - digitZero)) most f)) ∙ h)
 
 pub number-within : (most n : ℕ) (bs rest : List ℕ) → 9 ≤ most → readNumber most bs ≡ got n rest → n ≤ most
 number-within most n [] rest l h = never (sym (number-empty most) ∙ h)
-number-within most n (b ∷ bs) rest l h = go (ℕ-discrete b 48) (isDigit b) refl
+number-within most n (b ∷ bs) rest l h = go (ℕ-discrete b digitZero) (isDigit b) refl
   where
     zeroed : got 0 bs ≡ got n rest → n ≤ most
     zeroed e = let q : 0 ≡ n = cc in omega arith
 
-    go : Dec (b ≡ 48) → (t : Bool) → isDigit b ≡ t → n ≤ most
+    go : Dec (b ≡ digitZero) → (t : Bool) → isDigit b ≡ t → n ≤ most
     go (yes q) t e = zeroed (sym (number-zero most b bs q) ∙ h)
     go (no ne) true e =
         let s = of-digit b e in
-        digits-within most (b - 48) n bs rest (omega arith) (sym (number-starts most b bs ne e) ∙ h)
+        digits-within most (b - digitZero) n bs rest (omega arith) (sym (number-starts most b bs ne e) ∙ h)
     go (no ne) false e = never (sym (number-none most b bs ne e) ∙ h)
 
 -- a line, written and read

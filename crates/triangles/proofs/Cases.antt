@@ -2,7 +2,7 @@
 use mathlib.Core.Path.{_≡_, refl, ap, ap₂, sym, _∙_}
 use mathlib.Core.Bool.{Bool, true, false}
 use mathlib.Core.List.{List, [], _∷_, flatMap, flatten}
-use Prim.Native.Nat.{ℕ, _+_, _*_, _%_, _<_, _≤_}
+use Prim.Native.Nat.{ℕ, _+_, _-_, _*_, _%_, _<_, _≤_}
 use native.Mathlib.Nat.{mul-add}
 use native.Mathlib.Omega.{arith}
 use borrow.Author.Tests.{leb-true}
@@ -15,10 +15,10 @@ use Rattle.laws.specs.Mesh.{Triangle, triangle, cornersOf, flat, sides}
 use Rattle.laws.specs.Sum.{All}
 use Rattle.laws.proofs.Tests.{all-at}
 use Rattle.laws.proofs.Sums.{all-weaken}
-use Rattle.cube.specs.Cube.{cornerX, cornerY, cornerZ, caseOf, isAbove}
+use Rattle.cube.specs.Cube.{cases, cornerX, cornerY, cornerZ, caseOf, isAbove}
 use Rattle.cube.specs.Face.{cuts, wayRound, faceSegments, segmentsOf}
 use Rattle.cube.specs.Loop.{loops, fan}
-use Rattle.cube.specs.Answer.{segments, triangles, count, cornersAt, answer, row, table}
+use Rattle.cube.specs.Answer.{mostCaseTriangles, caseLength, segments, triangles, count, cornersAt, answer, row, table}
 use Rattle.cube.proofs.Places.{entry}
 use Rattle.cube.proofs.Cases.{CrossedEdge, CrossedSide, sides-crossed}
 use Rattle.grid.specs.Grid.{site}
@@ -32,23 +32,23 @@ use Rattle.laws.proofs.Halves.{two-bits}
 use Rattle.laws.proofs.Sides.{corners-start}
 
 -- the masks give a byte
-pub row-case-small : (m : RowMasks) (x : ℕ) → rowCase m x < 256
+pub row-case-small : (m : RowMasks) (x : ℕ) → rowCase m x < cases
 unfolding rowCase
 row-case-small m x = omega arith
 
 -- a case has at most five triangles
-every-count-most : allTo 256 (λ k. leb (count k) 5) ≡ true
+every-count-most : allTo cases (λ k. leb (count k) mostCaseTriangles) ≡ true
 unfolding allTo count triangles fan loops segments segmentsOf flatMap faceSegments cuts wayRound isAbove bit
 every-count-most = refl
 
-pub count-most : (k : ℕ) → k < 256 → count k ≤ 5
-count-most k h = leb-true (count k) 5 (all-at 256 (λ k. leb (count k) 5) every-count-most k h)
+pub count-most : (k : ℕ) → k < cases → count k ≤ mostCaseTriangles
+count-most k h = leb-true (count k) mostCaseTriangles (all-at cases (λ k. leb (count k) mostCaseTriangles) every-count-most k h)
 
 same-bits : (b : Bool) (v x : ℕ) → bit v x ≡ b → bit v (x + 1) ≡ b → halved v x % 4 ≡ 3 * one-if b
 same-bits b v x this next = two-bits v x ∙ rw (this, next) (omega arith)
 
 -- a cube that is all above or all below has no triangle
-whole-cube : (b : Bool) → count (255 * one-if b) ≡ 0
+whole-cube : (b : Bool) → count ((cases - 1) * one-if b) ≡ 0
 unfolding count triangles fan loops segments segmentsOf flatMap faceSegments cuts wayRound isAbove bit
 whole-cube true = refl
 whole-cube false = refl
@@ -61,7 +61,7 @@ AllAt b m x = (bit (m .m00) x ≡ b) × (bit (m .m10) x ≡ b) × (bit (m .m01) 
 pub one-side-empty : (b : Bool) (m : RowMasks) (x : ℕ) → AllAt b m x → AllAt b m (x + 1) → count (rowCase m x) ≡ 0
 unfolding rowCase
 one-side-empty b m x this next =
-    let k : rowCase m x ≡ 255 * one-if b =
+    let k : rowCase m x ≡ (cases - 1) * one-if b =
     omega (
       arith,
       same-bits b (m .m00) x (this .0) (next .0),
@@ -87,18 +87,18 @@ corners-first (a ∷ b ∷ c ∷ d ∷ []) h = refl
 corners-first (a ∷ b ∷ c ∷ d ∷ e ∷ []) h = refl
 corners-first (a ∷ b ∷ c ∷ d ∷ e ∷ f ∷ ts) h = absurd (omega arith)
 
-pub corner-in-table : (k j : ℕ) → k < 256 → j < 3 * count k → getD table (15 * k + j) 0 ≡ getD (flat (triangles k)) j 0
+pub corner-in-table : (k j : ℕ) → k < cases → j < 3 * count k → getD table (caseLength * k + j) 0 ≡ getD (flat (triangles k)) j 0
 unfolding count row answer cornersAt fifteen
 corner-in-table k j h l =
     let most : length (triangles k) ≤ 5 = count-most k h in
-    let here : 15 * k + j ≡ k * 15 + j = omega arith in
+    let here : caseLength * k + j ≡ k * 15 + j = omega arith in
     ap (λ n. getD table n 0) here
     ∙ entry k j h (omega arith)
     ∙ sym (getD-take (3 * length (triangles k)) (fifteen (triangles k)) j 0 l)
     ∙ ap (λ xs. getD xs j 0) (corners-first (triangles k) most)
 
 -- each corner of a case's triangles is a crossed edge
-pub corners-crossed : (k : ℕ) → k < 256 → All (CrossedEdge k) (flat (triangles k))
+pub corners-crossed : (k : ℕ) → k < cases → All (CrossedEdge k) (flat (triangles k))
 corners-crossed k h =
     corners-start (CrossedEdge k) (triangles k)
     (all-weaken (CrossedSide k) (λ s. CrossedEdge k (s .from)) (λ s c. c .start) (sides (triangles k)) (sides-crossed k h))

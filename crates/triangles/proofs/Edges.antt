@@ -10,7 +10,7 @@ use lib.Dec.{eqb}
 use lib.ListN.{getD}
 use Rattle.laws.specs.Range.{allTo}
 use Rattle.laws.proofs.Tests.{all-at}
-use Rattle.cube.specs.Cube.{cornerX, cornerY, cornerZ, lowCorner, cubeEdges}
+use Rattle.cube.specs.Cube.{cubeEdgeCount, cornerX, cornerY, cornerZ, lowCorner, cubeEdges}
 use Rattle.grid.specs.Grid.{Size, site}
 use Rattle.grid.specs.Mesh.{cornerSite, gridEdge}
 use Rattle.grid.proofs.Sites.{site-add}
@@ -18,14 +18,14 @@ use Rattle.triangles.specs.Row.{edgeOffset}
 use Rattle.laws.proofs.Lists.{map-at}
 
 -- edge e stands in the list of edges at e
-every-edge-listed : allTo 12 (λ e. eqb (getD cubeEdges e 0) e) ≡ true
+every-edge-listed : allTo cubeEdgeCount (λ e. eqb (getD cubeEdges e 0) e) ≡ true
 unfolding allTo
 every-edge-listed = refl
 
-pub offset-at : (nx ny e : ℕ) → e < 12 → getD (map (edgeOffset nx ny) cubeEdges) e 0 ≡ edgeOffset nx ny e
+pub offset-at : (nx ny e : ℕ) → e < cubeEdgeCount → getD (map (edgeOffset nx ny) cubeEdges) e 0 ≡ edgeOffset nx ny e
 offset-at nx ny e h =
     map-at (edgeOffset nx ny) cubeEdges e 0 0 h
-    ∙ ap (edgeOffset nx ny) (eqb-true _ e (all-at 12 (λ e. eqb (getD cubeEdges e 0) e) every-edge-listed e h))
+    ∙ ap (edgeOffset nx ny) (eqb-true _ e (all-at cubeEdgeCount (λ e. eqb (getD cubeEdges e 0) e) every-edge-listed e h))
 
 module _ (n : Size) (x y z : ℕ) where
   -- a cube edge's grid edge, counted on from the first grid edge of the cube's first corner

@@ -10,7 +10,7 @@ use Rattle.laws.specs.Mesh.{rename, cornersOf, flat}
 use Rattle.laws.specs.Room.{laid}
 use Rattle.laws.proofs.Ranges.{join-next, join-room}
 use Rattle.laws.proofs.Writes.{sets-front}
-use Rattle.cube.specs.Cube.{cubeEdges}
+use Rattle.cube.specs.Cube.{cases, cubeEdgeCount, cubeEdges}
 use Rattle.cube.specs.Answer.{triangles}
 use Rattle.cube.proofs.Corners.{case-small}
 use Rattle.cube.proofs.Cases.{CrossedEdge}
@@ -42,11 +42,11 @@ module _ (nx ny nz : ℕ) (masks : List ℕ) where
 
   module _ (work offsets : List ℕ) (given : Numbered n above work) (right : offsets ≡ map (edgeOffset nx ny) cubeEdges) where
     -- where the code reads for edge e of the cube at (x, y, z)
-    read-at : (x y z e : ℕ) → e < 12 → 3 * nx * (ny * z + y) + 3 * x + getD offsets e 0 ≡ gridEdge n x y z e
+    read-at : (x y z e : ℕ) → e < cubeEdgeCount → 3 * nx * (ny * z + y) + 3 * x + getD offsets e 0 ≡ gridEdge n x y z e
     read-at x y z e h = rw (right, offset-at nx ny e h) (edge-place n x y z e)
 
     module _ (x y z : ℕ) (hx : x + 1 < nx) (hy : y + 1 < ny) (hz : z + 1 < nz) where
-      pub read-inside : (e : ℕ) → e < 12 → 3 * nx * (ny * z + y) + 3 * x + getD offsets e 0 < length work
+      pub read-inside : (e : ℕ) → e < cubeEdgeCount → 3 * nx * (ny * z + y) + 3 * x + getD offsets e 0 < length work
       read-inside e h = omega (arith, read-at x y z e h, grid-edge-small n x y z hx hy hz e h, given .whole)
 
       -- what it finds there
@@ -61,7 +61,7 @@ module _ (nx ny nz : ℕ) (masks : List ℕ) where
       unfolding cubeNumbers cubeTriangles
       cube-meshed =
           let k = caseAt n above x y z in
-          let small : k < 256 = unfold caseAt in case-small (λ c. above (cornerSite n x y z c)) in
+          let small : k < cases = unfold caseAt in case-small (λ c. above (cornerSite n x y z c)) in
           rw (
             case-of-masks nx ny nz masks x y z hx,
             flat-renamed (number axes n above) (map (rename (gridEdge n x y z)) (triangles k)),

@@ -9,7 +9,8 @@ use Rattle.laws.specs.Range.{joinTo}
 use Rattle.laws.specs.Mesh.{flat}
 use Rattle.laws.proofs.Ranges.{join-next, join-quiet, join-room}
 use Rattle.laws.proofs.Writes.{sets-append, sets-next}
-use Rattle.cube.specs.Answer.{count, triangles, table}
+use Rattle.cube.specs.Answer.{caseLength, count, triangles, table}
+use Rattle.cube.specs.Cube.{cases, cubeEdgeCount}
 use Rattle.cube.proofs.Cases.{CrossedEdge}
 use Rattle.triangles.specs.declared.RowMasks.{RowMasks}
 use Rattle.triangles.specs.Row.{masksAt, rowCase, cubeNumbers, rowNumbers, layerNumbers}
@@ -25,17 +26,17 @@ module _ (offsets work : List ℕ) (edge k : ℕ) where
   length-cube = length-map (flat (triangles k)) (λ e. getD work (edge + getD offsets e 0) 0) ∙ length-corners (triangles k)
 
 -- the edge number that is read from the table, and the number that is then written
-module _ (rows : List ℕ) (right : rows ≡ table) (k j : ℕ) (h : k < 256) (l : j < 3 * count k) where
-  edge-read : getD rows (15 * k + j) 0 ≡ getD (flat (triangles k)) j 0
+module _ (rows : List ℕ) (right : rows ≡ table) (k j : ℕ) (h : k < cases) (l : j < 3 * count k) where
+  edge-read : getD rows (caseLength * k + j) 0 ≡ getD (flat (triangles k)) j 0
   edge-read = rw right (corner-in-table k j h l)
 
-  pub edge-small : getD rows (15 * k + j) 0 < 12
+  pub edge-small : getD rows (caseLength * k + j) 0 < cubeEdgeCount
   unfolding count
   edge-small =
       rw edge-read (all-get (CrossedEdge k) (flat (triangles k)) j 0 (corners-crossed k h) (omega (arith, length-corners (triangles k))) .small)
 
   pub cube-next : (offsets work : List ℕ) (edge : ℕ) (room : List ℕ) (at : ℕ)
-      → set (sets room at (take j (cubeNumbers offsets work edge k))) (at + j) (getD work (edge + getD offsets (getD rows (15 * k + j) 0) 0) 0)
+      → set (sets room at (take j (cubeNumbers offsets work edge k))) (at + j) (getD work (edge + getD offsets (getD rows (caseLength * k + j) 0) 0) 0)
       ≡ sets room at (take (j + 1) (cubeNumbers offsets work edge k))
   unfolding cubeNumbers count
   cube-next offsets work edge room at =

@@ -6,7 +6,7 @@ use Prim.Native.Nat.{ℕ, _+_, _*_, _-_, _<_, _≤_}
 use lib.ListN.{length, getD}
 use lib.Seq.{sets}
 use Rattle.laws.specs.Bits.{bit}
-use Rattle.cube.specs.Cube.{cases}
+use Rattle.cube.specs.Cube.{cubeEdgeCount, cases}
 use Rattle.cube.specs.Answer.{count}
 use Rattle.grid.specs.Limits.{leastSide, mostSide, mostRows}
 use Rattle.masks.specs.Masks.{AllSet}
@@ -33,15 +33,15 @@ pub record LayerFits (l : Layer) : Type 0 where
 pub record CubeRoom (offsets work room : List ℕ) (case many edge at : ℕ) : Type 0 where
   pub small : case < cases
   pub corners : many ≡ 3 * count case
-  pub edges : (e : ℕ) → e < 12 → edge + getD offsets e 0 < length work
+  pub edges : (e : ℕ) → e < cubeEdgeCount → edge + getD offsets e 0 < length work
   pub numbers : at + many ≤ length room
 
 pub record RowRoom (offsets work room : List ℕ) (cubes : ℕ) (row : RowMasks) (edge at : ℕ) : Type 0 where
-  pub edges : (x e : ℕ) → x < cubes → e < 12 → edge + 3 * x + getD offsets e 0 < length work
+  pub edges : (x e : ℕ) → x < cubes → e < cubeEdgeCount → edge + 3 * x + getD offsets e 0 < length work
   pub numbers : at + length (rowNumbers offsets work cubes row edge) ≤ length room
 
 pub record LayerRoom (offsets work room : List ℕ) (nx ny : ℕ) (masks : List ℕ) (first at : ℕ) : Type 0 where
-  pub edges : (x y e : ℕ) → x + 1 < nx → y + 1 < ny → e < 12 → 3 * nx * (first + y) + 3 * x + getD offsets e 0 < length work
+  pub edges : (x y e : ℕ) → x + 1 < nx → y + 1 < ny → e < cubeEdgeCount → 3 * nx * (first + y) + 3 * x + getD offsets e 0 < length work
   pub numbers : at + length (layerNumbers offsets work nx ny (ny - 1) masks first) ≤ length room
 
 -- the numbers stand in the room from `at` on, and `next` is the place after them

@@ -5,6 +5,7 @@ use native.Mathlib.Nat.{pow-suc}
 use native.Mathlib.Numerals.{add-one}
 use native.Mathlib.Omega.{arith}
 use lib.Pow.{pow-mono}
+use Rattle.laws.specs.Bits.{wordBits}
 use Rattle.laws.proofs.Halves.{bit-of-ones}
 use Rattle.masks.proofs.full_mask.Statement.{statement}
 use Rattle.masks.proofs.full_mask.Tie as tie
@@ -20,7 +21,7 @@ loop-holds c = omega arith
 
 -- the mask can be doubled once more
 half-free : (c : tie.In-loop Inv-loop μ-loop) → 2 ^ c .before .loop .counter ≤ 2 ^ 63
-half-free c = pow-mono {j = 63} (omega arith)
+half-free c = pow-mono {j = wordBits - 1} (omega arith)
 
 mul-full : tie.Need-mul-full Inv-loop μ-loop
 mul-full c = omega (arith, half-free c)

@@ -3,6 +3,7 @@
 use mathlib.Core.Path.{_≡_, _∙_}
 use Prim.Native.Nat.{_*_, _-_, _≤_}
 use native.Mathlib.Omega.{arith}
+use Rattle.laws.specs.Bits.{wordBits}
 use Rattle.masks.specs.Masks.{rowAbove, maskFrom, rowMask}
 use Rattle.masks.proofs.Rows.{mask-small, mask-eight, eight-of-row}
 use Rattle.masks.proofs.row_mask.Statement.{statement}
@@ -33,7 +34,7 @@ mul-mask : tie.Need-mul-mask Inv-loop μ-loop
 mul-mask c =
     let a = c .before .before .before .before .args in
     let l = c .before .loop in
-    omega (arith, l .inv .2, mask-small (rowAbove (a .grey) (a .samples .now) (a .start)) (l .x) (a .nx) 56 (omega arith))
+    omega (arith, l .inv .2, mask-small (rowAbove (a .grey) (a .samples .now) (a .start)) (l .x) (a .nx) (wordBits - 8) (omega arith))
 
 add-eight-mask : tie.Need-add-eight-mask Inv-loop μ-loop
 add-eight-mask c = omega arith
@@ -49,7 +50,7 @@ add-mask c =
       arith,
       l .inv .2,
       c .eight-mask .ensures .1,
-      mask-small (rowAbove (a .grey) (a .samples .now) (a .start)) (l .x) (a .nx) 56 (omega arith),
+      mask-small (rowAbove (a .grey) (a .samples .now) (a .start)) (l .x) (a .nx) (wordBits - 8) (omega arith),
     )
 
 loop-less : tie.Need-loop-less Inv-loop μ-loop

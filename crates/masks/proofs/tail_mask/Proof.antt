@@ -3,6 +3,7 @@ use mathlib.Core.Path.{_≡_, sym, _∙_}
 use Prim.Native.Nat.{_-_, _≤_}
 use native.Mathlib.Omega.{arith}
 use borrow.Author.Needs.{needs}
+use Rattle.laws.specs.Bits.{wordBits}
 use Rattle.laws.proofs.Binary.{bit-le}
 use Rattle.grid.specs.Grid.{isAboveGrey}
 use Rattle.masks.specs.Masks.{rowAbove, maskFrom}
@@ -26,7 +27,7 @@ mul-mask : tie.Need-mul-mask Inv-loop μ-loop
 mul-mask c =
     let a = c .before .before .before .args in
     let l = c .before .loop in
-    omega (arith, l .inv .2, mask-small (rowAbove (a .grey) (a .samples .now) (a .start)) (l .x) (a .nx) 63 (omega arith))
+    omega (arith, l .inv .2, mask-small (rowAbove (a .grey) (a .samples .now) (a .start)) (l .x) (a .nx) (wordBits - 1) (omega arith))
 
 add-above-bit : tie.Need-add-above-bit Inv-loop μ-loop
 add-above-bit c = search needs
@@ -50,7 +51,7 @@ add-mask c =
       l .inv .2,
       c .above-bit .ensures .0,
       bit-le (rowAbove (a .grey) (a .samples .now) (a .start) (l .x - 1)),
-      mask-small (rowAbove (a .grey) (a .samples .now) (a .start)) (l .x) (a .nx) 63 (omega arith),
+      mask-small (rowAbove (a .grey) (a .samples .now) (a .start)) (l .x) (a .nx) (wordBits - 1) (omega arith),
     )
 
 loop-less : tie.Need-loop-less Inv-loop μ-loop

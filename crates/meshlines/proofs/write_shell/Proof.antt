@@ -10,13 +10,14 @@ use mir.Val.{toZ, ofZ}
 use mir.Facts.{toZ-ofZ}
 use borrow.Author.Needs.{needs}
 use Rattle.lines.specs.Decimal.{signed}
+use Rattle.meshlines.specs.MeshLines.{letterS}
 use Rattle.meshlines.proofs.ShellTexts.{shell-length, shell-written}
 use Rattle.meshlines.proofs.write_shell.Statement.{statement}
 use Rattle.meshlines.proofs.write_shell.Tie as tie
 
 -- the room stays as long while the letter and the tab are written
-lettered-room : (t : tie.Start) → length (set (set (t .args .room .now) (t .args .at) 83) (t .args .at + 1) 9) ≡ length (t .args .room .now)
-lettered-room t = length-set (set (t .args .room .now) (t .args .at) 83) (t .args .at + 1) 9 ∙ length-set (t .args .room .now) (t .args .at) 83
+lettered-room : (t : tie.Start) → length (set (set (t .args .room .now) (t .args .at) letterS) (t .args .at + 1) 9) ≡ length (t .args .room .now)
+lettered-room t = length-set (set (t .args .room .now) (t .args .at) letterS) (t .args .at + 1) 9 ∙ length-set (t .args .room .now) (t .args .at) letterS
 
 -- the volume, as it is handed on
 volume : (t : tie.Start) → toZ w64 (ofZ w64 (t .args .volume)) ≡ t .args .volume
@@ -29,7 +30,7 @@ add-room : tie.Need-add-room
 add-room c = search needs
 
 slice-write-room-2 : tie.Need-slice-write-room-2
-slice-write-room-2 c = let t = c .before .before in omega (arith, t .pre, shell-length (t .args .numbers .now) (t .args .volume), length-set (t .args .room .now) (t .args .at) 83)
+slice-write-room-2 c = let t = c .before .before in omega (arith, t .pre, shell-length (t .args .numbers .now) (t .args .volume), length-set (t .args .room .now) (t .args .at) letterS)
 
 add-write-fields : tie.Need-add-write-fields
 add-write-fields c = search needs

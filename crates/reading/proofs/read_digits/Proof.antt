@@ -21,12 +21,16 @@ Inv-loop input from first most at₀ value₀ at value =
 
 abbrev μ-loop : tie.MeasureT-loop
 μ-loop input from first most at₀ value₀ at value = length input - at
+
 loop-holds : tie.Need-loop-holds Inv-loop μ-loop
 loop-holds c = (omega arith, omega arith, refl)
+
 shared-slice-read-byte : tie.Need-shared-slice-read-byte Inv-loop μ-loop
 shared-slice-read-byte c = omega arith
+
 is-digit-requires : tie.Need-is-digit-requires Inv-loop μ-loop
 is-digit-requires c κs = search needs
+
 returns : tie.Need-returns Inv-loop μ-loop
 unfolding answered
 returns c =
@@ -36,12 +40,16 @@ returns c =
       within = omega arith;
       inside = omega arith;
     }
+
 sub-digit : tie.Need-sub-digit Inv-loop μ-loop
 sub-digit c = omega (arith, of-digit _ (sym (c .before .is-digit .ensures) ∙ not-false _ (c .if1 .left)))
+
 cast-digit : tie.Need-cast-digit Inv-loop μ-loop
 cast-digit c = omega (arith, of-digit _ (sym (c .before .is-digit .ensures) ∙ not-false _ (c .if1 .left)))
+
 sub-if2 : tie.Need-sub-if2 Inv-loop μ-loop
 sub-if2 c = omega (arith, of-digit _ (sym (c .before .is-digit .ensures) ∙ not-false _ (c .if1 .left)))
+
 nothing-requires : tie.Need-nothing-requires Inv-loop μ-loop
 nothing-requires c κs = search needs
 
@@ -54,17 +62,22 @@ returns-2 c =
 
 mul-value : tie.Need-mul-value Inv-loop μ-loop
 mul-value c = omega arith
+
 add-value : tie.Need-add-value Inv-loop μ-loop
 add-value c = omega (arith, of-digit _ (sym (c .before .before .is-digit .ensures) ∙ not-false _ (c .before .if1 .left)))
+
 add-at : tie.Need-add-at Inv-loop μ-loop
 add-at c = omega arith
+
 loop-less : tie.Need-loop-less Inv-loop μ-loop
 loop-less c = omega arith
+
 loop-again : tie.Need-loop-again Inv-loop μ-loop
 loop-again c =
     let l = c .before .before .before .before .before in
     let d = sym (c .before .before .is-digit .ensures) ∙ not-false _ (c .before .if1 .left) in
     (omega arith, omega (arith, of-digit _ d), l .loop .inv .2 ∙ digits-next-at _ (l .loop .value) (l .before .before .args .input .now) (l .loop .at) (omega arith) d (omega (arith, of-digit _ d)))
+
 returns-3 : tie.Need-returns-3 Inv-loop μ-loop
 unfolding answered
 returns-3 c =

@@ -7,6 +7,7 @@ use lib.Count.{trailingZeros}
 use lib.ListN.{getD}
 use Rattle.laws.specs.Bits.{wordBits}
 use Rattle.cube.specs.Answer.{count}
+use Rattle.cube.specs.Cube.{cases}
 use Rattle.triangles.specs.Row.{rowCase, rowCount}
 use Rattle.triangles.proofs.Cases.{row-case-small, count-most}
 use Rattle.triangles.proofs.Steps.{case-held, count-read, row-count-first, row-count-next, row-count-most, row-count-quiet}
@@ -59,7 +60,7 @@ case-is c =
     let here = c .before .before in
     case-held (begun here .args .row) (c .before .after .result) (cubeHere here) (c .case .result) (c .before .after .ensures ∙ found-here here .masks) (c .case .ensures)
 
-case-small : (c : tie.After-case Inv-loop μ-loop) → c .case .result < 256
+case-small : (c : tie.After-case Inv-loop μ-loop) → c .case .result < cases
 case-small c = omega (arith, case-is c, row-case-small (begun (c .before .before) .args .row) (cubeHere (c .before .before)))
 
 abbrev countHere : tie.After-case Inv-loop μ-loop → ℕ

@@ -4,7 +4,8 @@ use Prim.Native.Nat.{ℕ, _+_, _*_, _-_, _<_, _≤_}
 use native.Mathlib.Omega.{arith}
 use lib.ListN.{length, getD, take}
 use lib.Seq.{sets, length-sets, take-all}
-use Rattle.cube.specs.Answer.{count}
+use Rattle.cube.specs.Answer.{caseLength, count}
+use Rattle.cube.specs.Cube.{cubeEdgeCount}
 use Rattle.triangles.specs.Row.{cubeNumbers}
 use Rattle.triangles.proofs.Cases.{count-most}
 use Rattle.triangles.proofs.Numbers.{length-cube, edge-small, cube-next}
@@ -26,12 +27,12 @@ loop-holds c = (omega arith, refl)
 
 -- in a turn: the edge number that is read, and its place in the work room
 abbrev edgeHere : tie.In-loop Inv-loop μ-loop → ℕ
-edgeHere c = getD (c .before .before .args .rows .now) (15 * c .before .before .args .case + c .before .loop .j) 0
+edgeHere c = getD (c .before .before .args .rows .now) (caseLength * c .before .before .args .case + c .before .loop .j) 0
 
 turn : (c : tie.In-loop Inv-loop μ-loop) → c .before .loop .j < 3 * count (c .before .before .args .case)
 turn c = omega (arith, c .before .before .pre .1 .corners)
 
-edge-below : (c : tie.In-loop Inv-loop μ-loop) → edgeHere c < 12
+edge-below : (c : tie.In-loop Inv-loop μ-loop) → edgeHere c < cubeEdgeCount
 edge-below c = edge-small _ (c .before .before .pre .0) _ _ (c .before .before .pre .1 .small) (turn c)
 
 place-below : (c : tie.In-loop Inv-loop μ-loop)

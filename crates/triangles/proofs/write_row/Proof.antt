@@ -8,6 +8,7 @@ use lib.Count.{trailingZeros}
 use lib.ListN.{length, getD}
 use Rattle.laws.specs.Bits.{wordBits}
 use Rattle.cube.specs.Answer.{count}
+use Rattle.cube.specs.Cube.{cases}
 use Rattle.triangles.specs.Row.{rowCase, rowNumbers}
 use Rattle.triangles.specs.Walk.{CubeRoom, Written}
 use Rattle.triangles.proofs.Cases.{row-case-small, count-most}
@@ -94,7 +95,7 @@ case-is c =
     let here = c .before .before in
     case-held (begun here .args .row) (c .before .after .result) (cubeHere here) (c .case .result) (c .before .after .ensures ∙ found-here here .masks) (c .case .ensures)
 
-case-small : (c : tie.After-case Inv-loop μ-loop) → c .case .result < 256
+case-small : (c : tie.After-case Inv-loop μ-loop) → c .case .result < cases
 case-small c = omega (arith, case-is c, row-case-small (begun (c .before .before) .args .row) (cubeHere (c .before .before)))
 
 abbrev countHere : tie.After-case Inv-loop μ-loop → ℕ

@@ -5,6 +5,7 @@ use native.Mathlib.Omega.{arith}
 use lib.ListN.{length}
 use lib.Seq.{length-take-le}
 use borrow.Author.Needs.{needs}
+use Rattle.grid.specs.Limits.{mostSmall}
 use Rattle.writing.specs.Writing.{refusalText}
 use Rattle.gridtext.specs.Grid.{samplesOf}
 use Rattle.writing.proofs.Fields.{written-read}
@@ -39,7 +40,7 @@ module _ (c : tie.Else1) where
   abbrev g : tie.After-read-grid
   g = c .before .before .before
 
-  small : samplesOf (headIn (g .read-grid .result)) ≤ 512
+  small : samplesOf (headIn (g .read-grid .result)) ≤ mostSmall
   small = samples-few _ _ _ (g .read-grid .ensures) (c .if1 .left)
 
   samples-hold : samplesOf (headIn (g .read-grid .result)) ≤ length (g .read-grid .last .1 .0)

@@ -5,6 +5,7 @@ use native.Mathlib.Omega.{arith}
 use lib.ListN.{length, take}
 use lib.Seq.{length-take-le}
 use borrow.Author.Needs.{needs}
+use Rattle.grid.specs.Limits.{mostSmall}
 use Rattle.extract.specs.Extraction.{Rooms, Outcome}
 use Rattle.extract.specs.Promise.{rooms, left}
 use Rattle.closed.specs.Left.{meshLeft, edgesLeft}
@@ -49,7 +50,7 @@ mul-work : tie.Need-mul-work
 mul-work c = search needs
 
 -- the samples are few, so that the work room holds their edges
-few : (s : tie.Start) → length (s .args .samples .now) ≤ 512
+few : (s : tie.Start) → length (s .args .samples .now) ≤ mostSmall
 few s = omega (arith, s .pre .0 .1, passed (headIn (s .args .grid)) (s .pre .0 .0) .1)
 
 array-borrow-prefix-work : tie.Need-array-borrow-prefix-work
