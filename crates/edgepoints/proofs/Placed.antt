@@ -1,7 +1,7 @@
 -- The point of a crossed edge, written.
 use mathlib.Core.Path.{_≡_}
 use mathlib.Core.List.{List, [], _∷_}
-use Prim.Native.Nat.{ℕ, _+_, _*_, _^_, _<_}
+use Prim.Native.Nat.{ℕ, _+_, _*_, _^_, _<_, _≤_}
 use native.Mathlib.Nat.{div-le-self}
 use native.Mathlib.Omega.{arith}
 use lib.ListN.{getD}
@@ -10,10 +10,10 @@ use Rattle.grid.specs.Limits.{unit}
 use Rattle.grid.specs.Grid.{Size, otherEnd}
 use Rattle.grid.specs.Point.{apart, offset, number}
 use Rattle.edgepoints.specs.declared.Point.{Point}
-use Rattle.edgepoints.specs.EdgePoint.{offsetDigits, PointRooms, placedFrom, stepOf, pointBy, pointFrom}
+use Rattle.edgepoints.specs.EdgePoint.{mostOffset, PointRooms, placedFrom, stepOf, pointBy, pointFrom}
 
 -- the offset of samples of sixteen bits is far below what a coordinate's type holds
-pub offset-fits : (v0 v1 grey : ℕ) → v0 < 2 ^ 16 → v1 < 2 ^ 16 → grey < 2 ^ 16 → offset v0 v1 grey < 2 ^ offsetDigits
+pub offset-fits : (v0 v1 grey : ℕ) → v0 < 2 ^ 16 → v1 < 2 ^ 16 → grey < 2 ^ 16 → offset v0 v1 grey ≤ mostOffset
 unfolding offset nearest
 offset-fits v0 v1 grey a b c = omega (arith, div-le-self (2 * (unit * apart grey v0) + apart v1 v0) (2 * apart v1 v0))
 

@@ -6,7 +6,7 @@ use Prim.Native.Nat.{ℕ, _+_, _*_, _^_, _<_, _≤_}
 use lib.ListN.{length, getD}
 use lib.Seq.{sets}
 use Rattle.laws.specs.Range.{one-if}
-use Rattle.grid.specs.Limits.{unit}
+use Rattle.grid.specs.Limits.{mostNumber, unit}
 use Rattle.grid.specs.Grid.{Size, site, coordinate, along, axes, otherEnd, someFace, onFaceFrom}
 use Rattle.grid.specs.Point.{offset}
 use Rattle.grid.specs.Work.{SidesFit}
@@ -14,9 +14,9 @@ use Rattle.rows.specs.declared.Sides.{Sides}
 use Rattle.edgepoints.specs.declared.Sample.{Sample}
 use Rattle.edgepoints.specs.declared.Point.{Point}
 
--- binary digits of an offset between samples of sixteen
-abbrev pub offsetDigits : ℕ
-offsetDigits = 26
+-- as far as the rule for an offset can come, whatever the samples
+abbrev pub mostOffset : ℕ
+mostOffset = (2 * unit + 1) * mostNumber
 
 -- the three rooms
 pub record PointRooms : Type 0 where

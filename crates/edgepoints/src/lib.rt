@@ -9,7 +9,7 @@ ghost use Rattle.grid.specs.Limits.{mostSide};
 ghost use Rattle.grid.specs.Grid.{axes, isEnd, someFace, onFaceFrom};
 ghost use Rattle.grid.specs.Work.{SidesFit};
 ghost use Rattle.rows.specs.Rows.{sizeOf, nextNumber};
-ghost use Rattle.edgepoints.specs.EdgePoint.{offsetDigits, pointRooms, Standing, RoomsFor, Placeable, placedFrom, withPlaced, stepOf, pointBy, pointFrom};
+ghost use Rattle.edgepoints.specs.EdgePoint.{mostOffset, pointRooms, Standing, RoomsFor, Placeable, placedFrom, withPlaced, stepOf, pointBy, pointFrom};
 use grid::limits::UNIT;
 use rows::Sides;
 
@@ -88,7 +88,7 @@ fn step_of(sides: Sides, axis: u32) -> usize
 fn point_on(sides: Sides, at: Sample, axis: u32, offset: u32) -> Point
     requires { ⌜ Standing sides at ⌝ }
     requires { ⌜ axis < 3 ⌝ }
-    requires { ⌜ offset < 2 ^ offsetDigits ⌝ }
+    requires { ⌜ offset ≤ mostOffset ⌝ }
     ensures { λ r. ⌜ r ≡ pointBy (sizeOf sides) (at .s) axis offset ⌝ }
 {
     let d = direction_of(axis);

@@ -58,6 +58,13 @@ mostRounds = 100
 abbrev pub mostWeight : ℕ
 mostWeight = 256
 
--- samples that the program for small grids takes
+-- "The program for small grids": the decimal digits of a number that is read, and the bytes of one that is written, twenty digits or a sign and nineteen
+abbrev pub numberDigits : ℕ
+numberDigits = 5
+
+abbrev pub longestNumber : ℕ
+longestNumber = 20
+
+-- samples that the program takes
 abbrev pub mostSmall : ℕ
 mostSmall = 512

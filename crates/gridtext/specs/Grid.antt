@@ -6,7 +6,7 @@ use lib.Dec.{eqb, leb, ltb}
 use lib.ListN.{length, getD}
 use Rattle.laws.specs.Room.{laid}
 use Rattle.grid.specs.Sides.{sidesFit}
-use Rattle.grid.specs.Limits.{mostRounds, mostWeight, mostSmall, mostNumber}
+use Rattle.grid.specs.Limits.{numberDigits, mostRounds, mostWeight, mostSmall, mostNumber}
 use Rattle.reading.specs.Reading.{Got, bad, got, after, readRow, GotRows, malformed, rows, readRows}
 use Rattle.lines.specs.Line.{tab}
 use Rattle.gridtext.specs.declared.Head.{Head}
@@ -74,9 +74,9 @@ withHead room (got h rest) =
 unfoldable pub readGrid : List ℕ → List ℕ → Outcome
 readGrid input room = withHead room (readHead input)
 
--- a number up to 65,535 has at most five digits, and the byte that ends it; line 1 is `G`, a tab and six of them
+-- a number that is read and the byte that ends it; line 1 is `G`, a tab and six of them
 abbrev pub longestSample : ℕ
-longestSample = 5 + 1
+longestSample = numberDigits + 1
 
 abbrev pub longestHead : ℕ
 longestHead = 2 + longestSample * 6

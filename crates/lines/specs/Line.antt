@@ -2,6 +2,7 @@
 use mathlib.Core.List.{List, [], _∷_, _++_}
 use Prim.Native.Nat.{ℕ, zero, suc, _+_, _*_}
 use lib.ListN.{length}
+use Rattle.grid.specs.Limits.{longestNumber}
 use Rattle.lines.specs.Decimal.{decimal}
 
 -- fields are parted by tabs and a line is ended by a line feed: the byte behind a field that has k fields after it
@@ -29,10 +30,7 @@ fields more (n ∷ ns) = decimal n ++ endOf (length ns + more) ∷ fields more n
 abbrev pub mostFields : ℕ
 mostFields = 256
 
--- a number below 2^64 has at most twenty digits, and one below 2^63 in size at most nineteen beside its sign; a field ends in one byte more
-abbrev pub longestNumber : ℕ
-longestNumber = 20
-
+-- a field is a number and the byte that ends it
 abbrev pub longestField : ℕ
 longestField = longestNumber + 1
 

@@ -2,11 +2,6 @@
 ghost use mathlib.Core.Path.{_≡_};
 ghost use Rattle.lines.specs.Line.{endOf};
 
-// The most bytes that a number takes with the byte that ends it: twenty digits, or nineteen and a sign.
-const LONGEST_NUMBER: usize = 20;
-
-pub const LONGEST_FIELD: usize = LONGEST_NUMBER + 1;
-
 // The byte behind a field that has `left` fields after it in its line.
 pub fn end_of(left: usize) -> u8
     ensures { λ r. ⌜ r ≡ endOf left ⌝ }

@@ -4,8 +4,9 @@ ghost use mathlib.Core.Path.{_≡_};
 ghost use Prim.Native.Nat.{_+_, _*_};
 ghost use lib.ListN.{length};
 ghost use Rattle.printing.specs.Sizes.{mostSmallPoints, mostSmallTriangles, mostInput, mostOutput};
+use grid::limits::LONGEST_NUMBER;
 use grid::limits::MOST_SMALL;
-use lines::LONGEST_FIELD;
+use grid::limits::NUMBER_DIGITS;
 
 // At most three grid edges leave a sample.
 pub const MOST_SMALL_POINTS: usize = 3 * (MOST_SMALL as usize);
@@ -13,12 +14,14 @@ pub const MOST_SMALL_POINTS: usize = 3 * (MOST_SMALL as usize);
 // A case has at most five triangles, and there are fewer cubes than samples.
 pub const MOST_SMALL_TRIANGLES: usize = 5 * (MOST_SMALL as usize);
 
-// A number of the input takes at most five digits and the byte that ends it. Line 1 has six numbers behind its letter and tab; one more byte shows that something follows.
-const LONGEST_SAMPLE: usize = 5 + 1;
+// A number of the input and the byte that ends it. Line 1 has six behind its letter and tab; one more byte shows that something follows.
+const LONGEST_SAMPLE: usize = NUMBER_DIGITS + 1;
 
 pub const MOST_INPUT: usize = 2 + LONGEST_SAMPLE * 6 + LONGEST_SAMPLE * (MOST_SMALL as usize) + 1;
 
-// The longest line of three numbers and of five, behind their letter and tab.
+// A number of the output and the byte that ends it, and the longest line of three and of five behind its letter and tab.
+const LONGEST_FIELD: usize = LONGEST_NUMBER + 1;
+
 const LINE_OF_THREE: usize = 2 + LONGEST_FIELD * 3;
 
 const LINE_OF_FIVE: usize = 2 + LONGEST_FIELD * 5;

@@ -12,8 +12,8 @@ use mir.Syntax.{w64}
 use mir.Val.{SFits, toZ, ofZ}
 use mir.Facts.{toZ-ofZ}
 use Rattle.laws.specs.Signed.{negative}
+use Rattle.grid.specs.Limits.{longestNumber}
 use Rattle.lines.specs.Decimal.{minusSign, decimal, signed}
-use Rattle.lines.specs.Line.{longestNumber}
 use Rattle.writing.proofs.Fields.{digits-most}
 
 pub signed-plain : (n : ℤ) → negative n ≡ false → signed n ≡ decimal (natAbs n)

@@ -1,6 +1,6 @@
 -- `edgepoints::point_on` meets its contract: the definition's own arithmetic, which fits. Assumes nothing.
 use mathlib.Core.Path.{_≡_}
-use Prim.Native.Nat.{_*_, _/_, _%_, _<_}
+use Prim.Native.Nat.{_/_, _%_, _<_}
 use native.Mathlib.Omega.{arith}
 use borrow.Author.Needs.{needs}
 use Rattle.grid.specs.Limits.{mostSamples}

@@ -24,7 +24,7 @@ sides c =
     record { nx = a .nx; ny = a .ny; nz = a .nz; full = c .full-mask .result }
 
 full-mask-requires : tie.Need-full-mask-requires Inv-loop μ-loop
-full-mask-requires c κs = c .before .pre .0 .most-x
+full-mask-requires c κs = omega (arith, c .before .pre .0 .most-x)
 
 loop-holds : tie.Need-loop-holds Inv-loop μ-loop
 loop-holds c =

@@ -54,7 +54,7 @@ room c =
     room-for-all (sides c) (a .grey) (now (a .samples)) (now (a .masks)) (first-rooms c) record { points = pre .0; edges = pre .1 .0; marks = pre .1 .1 }
 
 full-mask-requires : tie.Need-full-mask-requires Inv-loop μ-loop
-full-mask-requires c κs = c .before .before .before .before .pre .0 .most-x
+full-mask-requires c κs = omega (arith, c .before .before .before .before .pre .0 .most-x)
 
 loop-holds : tie.Need-loop-holds Inv-loop μ-loop
 loop-holds c =

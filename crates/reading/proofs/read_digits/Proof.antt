@@ -6,7 +6,7 @@ use lib.ListN.{length, drop}
 use borrow.Author.Needs.{needs}
 use borrow.Author.Tests.{not-true, not-false}
 use Rattle.reading.specs.Reading.{digitsOn}
-use Rattle.reading.specs.Answers.{answered, Reads}
+use Rattle.reading.specs.Answers.{answered}
 use Rattle.lines.proofs.Decimals.{of-digit}
 use Rattle.reading.proofs.Places.{reads-nothing, digits-end-at, digits-stop-at, digits-over-at, digits-next-at}
 use Rattle.reading.proofs.read_digits.Statement.{statement}

@@ -3,8 +3,8 @@ use mathlib.Core.Path.{_≡_}
 use Prim.Native.Nat.{_+_, _-_}
 use native.Mathlib.Omega.{arith}
 use lib.ListN.{length}
+use Rattle.grid.specs.Limits.{longestNumber}
 use Rattle.lines.specs.Decimal.{decimal}
-use Rattle.lines.specs.Line.{longestNumber}
 use Rattle.writing.proofs.Fields.{digits-one, digits-more, digits-most}
 use Rattle.writing.proofs.digit_count.Statement.{statement}
 use Rattle.writing.proofs.digit_count.Tie as tie

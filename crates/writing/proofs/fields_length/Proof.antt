@@ -4,8 +4,9 @@ use Prim.Native.Nat.{_+_, _*_, _-_, _≤_}
 use native.Mathlib.Omega.{arith}
 use lib.ListN.{length, getD, drop}
 use borrow.Author.Needs.{needs}
+use Rattle.grid.specs.Limits.{longestNumber}
 use Rattle.lines.specs.Decimal.{decimal}
-use Rattle.lines.specs.Line.{longestNumber, longestField, fields}
+use Rattle.lines.specs.Line.{longestField, fields}
 use Rattle.writing.proofs.Fields.{digits-most, fields-length, fields-end}
 use Rattle.writing.proofs.fields_length.Statement.{statement}
 use Rattle.writing.proofs.fields_length.Tie as tie
