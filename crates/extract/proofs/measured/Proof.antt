@@ -66,7 +66,7 @@ slice-aggregate-fill c = search needs
 fill-requires : tie.Need-fill-requires
 fill-requires c κs =
     let s = c .before .before .before .before .before .before .before in (
-      s .pre .0 .most-x,
+      omega (arith, s .pre .0 .most-x),
       rows-most (s .args .nx) (s .args .ny) (s .args .nz) (s .pre .0),
       s .pre .1 .0,
       omega (arith, s .pre .0 .least-x),
