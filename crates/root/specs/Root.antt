@@ -1,4 +1,4 @@
--- The number s that brings N into a window, and the whole root there, rounded down.
+-- The number s that brings N into the window, from 2^58 up to, and not reaching, 2^60, whose ends stand in Limits, and the whole root there, rounded down.
 use mathlib.Core.Bool.{Bool, true, false, cond}
 use Prim.Native.Nat.{ℕ, zero, suc, _+_, _*_, _/_, _^_}
 use lib.Dec.{leb}

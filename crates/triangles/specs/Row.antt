@@ -27,7 +27,7 @@ masksFrom m x = record { m00 = halved (m .m00) x; m10 = halved (m .m10) x; m01 =
 
 -- the case of the first cube: the two lowest bits of each mask are two neighbouring corners along x
 abbrev pub firstCase : RowMasks → ℕ
-firstCase m = m .m00 % 4 + 4 * (m .m10 % 4 + 4 * (m .m01 % 4 + 4 * (m .m11 % 4)))
+firstCase m = m .m00 % 4 + 4 * (m .m10 % 4) + 2 ^ 4 * (m .m01 % 4 + 4 * (m .m11 % 4))
 
 -- the case of cube x of the row
 unfoldable pub rowCase : RowMasks → ℕ → ℕ

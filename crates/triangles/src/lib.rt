@@ -20,6 +20,9 @@ use cube::CASES;
 use cube::TABLE;
 use grid::limits::MOST_ROWS;
 
+// A case of a cube's four lower corners is below this.
+const FOUR_CORNERS: u64 = 16;
+
 // The masks of the four rows of samples around a row of cubes: the row at the cubes' y and z, and those one on along y, along z and along both.
 struct RowMasks {
     m00: u64,
@@ -41,7 +44,9 @@ impl RowMasks {
     fn case(self) -> usize
         ensures { λ r. ⌜ r ≡ firstCase self ⌝ }
     {
-        (self.m00 % 4 + 4 * (self.m10 % 4 + 4 * (self.m01 % 4 + 4 * (self.m11 % 4)))) as usize
+        let low = self.m00 % 4 + 4 * (self.m10 % 4);
+        let high = self.m01 % 4 + 4 * (self.m11 % 4);
+        (low + FOUR_CORNERS * high) as usize
     }
 
     // On by one sample.
