@@ -1,4 +1,5 @@
 //! The bounds of document 01's "Numbers and sizes" stand in the C header, in the wrapper, in the reference, in Rattle's constants and in the definitions: they are the same in all five.
+//! What is computed from them stands in the definitions, and where code needs it in Rattle's constants too, with the same value.
 
 use std::collections::BTreeMap;
 
@@ -26,7 +27,7 @@ fn plain(name: &str) -> String {
         .collect()
 }
 
-/// The value of a sum of names and numbers with `*`, `-` and brackets, and what follows it.
+/// The value of a sum of names and numbers with `*`, `/`, `-` and brackets, and what follows it.
 fn value<'a>(words: &'a [String], known: &Bounds) -> (u64, &'a [String]) {
     let (mut total, mut rest) = product(words, known);
     while rest.first().is_some_and(|word| word == "-") {
@@ -38,9 +39,17 @@ fn value<'a>(words: &'a [String], known: &Bounds) -> (u64, &'a [String]) {
 
 fn product<'a>(words: &'a [String], known: &Bounds) -> (u64, &'a [String]) {
     let (mut total, mut rest) = factor(words, known);
-    while rest.first().is_some_and(|word| word == "*") {
+    while let Some(word) = rest
+        .first()
+        .filter(|word| ["*", "/"].contains(&word.as_str()))
+    {
         let (next, after) = factor(&rest[1..], known);
-        (total, rest) = (total * next, after);
+        total = if word == "*" {
+            total * next
+        } else {
+            total / next
+        };
+        rest = after;
     }
     (total, rest)
 }
@@ -77,7 +86,8 @@ fn bounds(text: &str, line: impl Fn(&str) -> Option<(&str, &str)>) -> Bounds {
 /// `pub const NAME: TYPE = EXPRESSION;`, in Rust and in Rattle.
 fn constant(line: &str) -> Option<(&str, &str)> {
     let (name, rest) = line.strip_prefix("pub const ")?.split_once(": ")?;
-    Some((name, rest.split_once(" = ")?.1.strip_suffix(';')?))
+    let expression = rest.split_once(" = ")?.1.strip_suffix(';')?;
+    Some((name, expression.trim_end_matches(" as usize")))
 }
 
 fn header(line: &str) -> Option<(&str, &str)> {
@@ -88,6 +98,13 @@ fn header(line: &str) -> Option<(&str, &str)> {
 
 fn definition(line: &str) -> Option<(&str, &str)> {
     line.split_once(" = ")
+}
+
+/// Those of the bounds that have a name among others.
+fn among(bounds: &Bounds, others: &Bounds) -> Bounds {
+    let mut kept = bounds.clone();
+    kept.retain(|name, _| others.contains_key(name));
+    kept
 }
 
 /// The last of rising numbers that is granted; the first is, and some later one is not.
@@ -157,12 +174,13 @@ fn reference() -> Bounds {
 fn the_same_in_every_place() {
     let definitions = bounds(&file("crates/grid/specs/Limits.antt"), definition);
     let code = bounds(&file("crates/grid/src/limits.rt"), constant);
-    assert_eq!(code, definitions, "Rattle's constants and the definitions");
-    assert_eq!(
-        reference(),
-        definitions,
-        "the reference and the definitions"
-    );
+    let shared = among(&definitions, &code);
+    assert_eq!(code, shared, "Rattle's constants and the definitions");
+    let document = reference();
+    let defined = among(&definitions, &document);
+    assert_eq!(document, defined, "the reference and the definitions");
+    let coded = among(&code, &document);
+    assert_eq!(document, coded, "the reference and Rattle's constants");
 
     // The words of a refusal have the bounds in them.
     for (refusal, bound) in [
@@ -182,7 +200,7 @@ fn the_same_in_every_place() {
     }
 
     // The bounds of the small program's text and the units of a voxel are no bounds of a call.
-    let mut calls = definitions;
+    let mut calls = document;
     for other in ["most_number", "most_small", "unit"] {
         assert!(calls.remove(other).is_some(), "{other}");
     }
