@@ -11,10 +11,12 @@ mod table;
 use table::COUNTS;
 use table::ROWS;
 
-// The cases, the numbers in the answer of one, and those in the answers of all.
+// The cases, the most triangles of one, the numbers in its answer, and those in the answers of all.
 pub const CASES: usize = 256;
 
-pub const CASE_LENGTH: usize = 15;
+pub const MOST_CASE_TRIANGLES: usize = 5;
+
+pub const CASE_LENGTH: usize = 3 * MOST_CASE_TRIANGLES;
 
 pub const TABLE: usize = CASES * CASE_LENGTH;
 

@@ -3,14 +3,13 @@ use mathlib.Core.Path.{_≡_, ap, sym, _∙_}
 use mathlib.Core.List.{List, map, flatMap}
 use mathlib.Core.Bool.{Bool, true, false}
 use Prim.Native.Nat.{ℕ, _*_, _/_, _≤_, min}
-use native.Mathlib.Nat.{mul-le-mul}
 use native.Mathlib.Omega.{arith}
 use lib.Dec.{ltb}
 use lib.ListN.{length, replicate, length-map}
 use borrow.Author.Tests.{ltb-false}
 use Rattle.laws.specs.Room.{laid}
 use Rattle.laws.specs.Mesh.{flat}
-use Rattle.grid.specs.Limits.{mostSide, mostRows, mostPoints, mostTriangles}
+use Rattle.grid.specs.Limits.{mostPoints, mostTriangles}
 use Rattle.grid.specs.Grid.{axes, isAboveGrey, mark}
 use Rattle.grid.specs.Point.{pointEdges, number, place}
 use Rattle.grid.specs.Mesh.{edgeMesh, mesh}
@@ -19,10 +18,6 @@ use Rattle.grid.proofs.Same.{points-same, mesh-same}
 use Rattle.masks.specs.Masks.{maskAbove, Masked}
 use Rattle.extract.specs.Extraction.{Rooms, Outcome, refused, cleared, pointList, triangleList, pointRoom, triangleRoom, granted, measured}
 use Rattle.extract.specs.Promise.{rooms, left}
-
--- a grid has no more rows than there is room for masks
-pub rows-most : (nx ny nz : ℕ) → SidesFit nx ny nz → ny * nz ≤ mostRows
-rows-most nx ny nz fits = mul-le-mul {n₁ = ny} {m₁ = nz} {n₂ = mostSide} {m₂ = mostSide} (fits .most-y) (fits .most-z)
 
 module _ (nx ny nz grey : ℕ) (samples masks : List ℕ) (fits : SidesFit nx ny nz) (masked : Masked nx (ny * nz) grey samples masks) where
   abbrev masksPoints : List ℕ

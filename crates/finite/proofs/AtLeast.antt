@@ -2,19 +2,19 @@
 use mathlib.Core.Bool.{true, false, true≢false}
 use mathlib.Core.Logic.{_⊎_, inl, inr}
 use mathlib.Core.Path.{_≡_, refl, sym, ap, subst, _∙_}
-use Prim.Native.Nat.{ℕ, _+_, _-_, _*_, _^_, _≤_, _<_}
+use Prim.Native.Nat.{ℕ, suc, _+_, _-_, _*_, _^_, _≤_, _<_}
 use native.Mathlib.Nat.{le-trans, le-of-eq, one-mul, zero-mul, mul-zero, mul-comm, mul-assoc, mul-right-comm, add-mul, mul-le-mul, mul-le-mul-left, mul-le-mul-right, mul-mul-mul-comm, mul-pos, eq-zero-or-pos}
 use native.Mathlib.Omega.{arith}
 use lib.IntN.{pos}
 use lib.Dec.{T}
 use lib.Pow.{pow-add, pow-mono, pow-pos, pow-lt}
-use lib.Ieee.{Float, nan, inf, fin, binary64, up, down, round, sum, add, mul, le, ofInt}
+use lib.Ieee.{Float, nan, inf, fin, binary64, low, emax, up, down, round, sum, add, mul, le, ofInt}
 use lib.Ieee.Fits.{down-pos}
 use lib.Ieee.Exact.{HasValue, round-exact}
 use lib.Ieee.Order.{round-mono}
 use lib.Ieee.Positive.{through}
 use Rattle.measures.specs.Vectors.{whole}
-use Rattle.finite.proofs.AtMost.{lowest, highest, AtMost, HasSign, round-sign, ordered}
+use Rattle.finite.proofs.AtMost.{AtMost, HasSign, round-sign, ordered}
 
 -- at least 2^-l
 abbrev pub AtLeast : ℕ → Float → Type 0
@@ -45,12 +45,12 @@ grain-more l k (inf s) h g = g
 grain-more l k (fin s m e) h g = (g .0, elim (g .1) [ inl z ↦ inl z | inr a ↦ inr (more-digits l k (m * up e) (down e) h a) ])
 
 -- rounding
-least-value : (l : ℕ) → l ≤ lowest → HasValue (round binary64 false 1 (2 ^ l)) false 1 (2 ^ l)
+least-value : (l : ℕ) → l ≤ low binary64 → HasValue (round binary64 false 1 (2 ^ l)) false 1 (2 ^ l)
 least-value l h =
-    let whole-power : lowest - l + l ≡ lowest = omega arith in
-    round-exact binary64 false 1 (2 ^ l) 1 (lowest - l) (pow-pos l) (omega arith)
-    (rw (one-mul (2 ^ (lowest - l))) (pow-lt {i = lowest - l} {j = lowest + highest} (omega arith)))
-    (ap (λ k. 1 * 2 ^ k) (sym whole-power) ∙ ap (λ k. 1 * k) (pow-add 2 (lowest - l) l) ∙ sym (mul-assoc 1 (2 ^ (lowest - l)) (2 ^ l)))
+    let whole-power : low binary64 - l + l ≡ low binary64 = omega arith in
+    round-exact binary64 false 1 (2 ^ l) 1 (low binary64 - l) (pow-pos l) (omega arith)
+    (rw (one-mul (2 ^ (low binary64 - l))) (pow-lt {i = low binary64 - l} {j = low binary64 + suc (emax binary64)} (omega arith)))
+    (ap (λ k. 1 * 2 ^ k) (sym whole-power) ∙ ap (λ k. 1 * k) (pow-add 2 (low binary64 - l) l) ∙ sym (mul-assoc 1 (2 ^ (low binary64 - l)) (2 ^ l)))
 
 over-least : (l q j : ℕ) (x y : Float) → HasValue x false 1 (2 ^ l) → HasSign false y → AtMost q j y → T (le x y) → AtLeast l y
 over-least l q j nan y v s f h = absurd v
@@ -62,7 +62,7 @@ over-least l q j (fin false n d) (fin true m e) v s f h = absurd (true≢false s
 over-least l q j (fin false n d) (fin false m e) v s f h =
     (refl, rw (one-mul (down e)) at (through 1 (n * up d) (m * up e) (2 ^ l) (down d) (down e) (down-pos d) (le-of-eq (sym (v .1))) (ordered n m d e h)))
 
-pub round-at-least : (l q j a c : ℕ) → l ≤ lowest → 0 < c → c ≤ a * 2 ^ l → AtMost q j (round binary64 false a c) → AtLeast l (round binary64 false a c)
+pub round-at-least : (l q j a c : ℕ) → l ≤ low binary64 → 0 < c → c ≤ a * 2 ^ l → AtMost q j (round binary64 false a c) → AtLeast l (round binary64 false a c)
 round-at-least l q j a c hl hc h f =
     over-least l q j (round binary64 false 1 (2 ^ l)) (round binary64 false a c) (least-value l hl) (round-sign false a c) f
     (round-mono binary64 1 (2 ^ l) a c (pow-pos l) hc (rw (one-mul c) h))
@@ -77,9 +77,9 @@ zero-value l c (inf s) hc h = absurd h
 zero-value l c (fin s m e) hc h = (h .0, inl (no-part (m * up e) c (down e) hc (h .1)))
 
 round-zero : (l c : ℕ) → 0 < c → Grain l (round binary64 false 0 c)
-round-zero l c hc = zero-value l c (round binary64 false 0 c) hc (round-exact binary64 false 0 c 0 0 hc (omega arith) (pow-pos (lowest + highest)) (sym (zero-mul c)))
+round-zero l c hc = zero-value l c (round binary64 false 0 c) hc (round-exact binary64 false 0 c 0 0 hc (omega arith) (pow-pos (low binary64 + suc (emax binary64))) (sym (zero-mul c)))
 
-pub round-grain : (l q j a c : ℕ) → l ≤ lowest → 0 < c → Grained l a c → AtMost q j (round binary64 false a c) → Grain l (round binary64 false a c)
+pub round-grain : (l q j a c : ℕ) → l ≤ low binary64 → 0 < c → Grained l a c → AtMost q j (round binary64 false a c) → Grain l (round binary64 false a c)
 round-grain l q j a c hl hc (inl z) f = subst (λ k. Grain l (round binary64 false k c)) (sym z) (round-zero l c hc)
 round-grain l q j a c hl hc (inr h) f = at-least-grain l (round binary64 false a c) (round-at-least l q j a c hl hc h f)
 
@@ -101,7 +101,7 @@ grained-sum l u v d e (inl h) (inl k) = inl (rw (h, k, zero-mul e, zero-mul d))
 grained-sum l u v d e (inr h) k = inr (omega (arith, cross-more l u d e h, add-mul (u * e) (v * d) (2 ^ l)))
 grained-sum l u v d e (inl h) (inr k) = inr (omega (arith, cross-more l v e d k, add-mul (u * e) (v * d) (2 ^ l), mul-comm d e))
 
-pub add-grain : (l q j : ℕ) (x y : Float) → l ≤ lowest → Grain l x → Grain l y → AtMost q j (add binary64 x y) → Grain l (add binary64 x y)
+pub add-grain : (l q j : ℕ) (x y : Float) → l ≤ low binary64 → Grain l x → Grain l y → AtMost q j (add binary64 x y) → Grain l (add binary64 x y)
 unfolding add sum
 add-grain l q j nan y hl h k f = absurd h
 add-grain l q j (inf s) y hl h k f = absurd h
@@ -121,7 +121,7 @@ grained-product k l u v d e (inl h) g = inl (rw (h, zero-mul))
 grained-product k l u v d e (inr h) (inl g) = inl (rw (g, mul-zero))
 grained-product k l u v d e (inr h) (inr g) = inr (product-least k l u v d e h g)
 
-pub mul-grain : (k l q j : ℕ) (x y : Float) → k + l ≤ lowest → Grain k x → Grain l y → AtMost q j (mul binary64 x y) → Grain (k + l) (mul binary64 x y)
+pub mul-grain : (k l q j : ℕ) (x y : Float) → k + l ≤ low binary64 → Grain k x → Grain l y → AtMost q j (mul binary64 x y) → Grain (k + l) (mul binary64 x y)
 unfolding mul
 mul-grain k l q j nan y hl h g f = absurd h
 mul-grain k l q j (inf s) y hl h g f = absurd h
@@ -132,7 +132,7 @@ mul-grain k l q j (fin false m e) (fin true n d) hl h g f = absurd (true≢false
 mul-grain k l q j (fin false m e) (fin false n d) hl h g f =
     round-grain (k + l) q j (m * up e * (n * up d)) (down e * down d) hl (mul-pos (down-pos e) (down-pos d)) (grained-product k l (m * up e) (n * up d) (down e) (down d) (h .1) (g .1)) f
 
-pub mul-at-least : (k l q j : ℕ) (x y : Float) → k + l ≤ lowest → AtLeast k x → AtLeast l y → AtMost q j (mul binary64 x y) → AtLeast (k + l) (mul binary64 x y)
+pub mul-at-least : (k l q j : ℕ) (x y : Float) → k + l ≤ low binary64 → AtLeast k x → AtLeast l y → AtMost q j (mul binary64 x y) → AtLeast (k + l) (mul binary64 x y)
 unfolding mul
 mul-at-least k l q j nan y hl h g f = absurd h
 mul-at-least k l q j (inf s) y hl h g f = absurd h

@@ -14,16 +14,7 @@ use lib.Ieee.Order.{round-mono}
 use lib.Ieee.Positive.{through}
 use Rattle.measures.specs.Vectors.{whole}
 
--- a binary64 number has 53 binary digits, the least above 0 is 2^-1074, all finite ones are below 2^1024, and no bound here goes further than 2^900 times a whole number
-abbrev precision : ℕ
-precision = 53
-
-abbrev pub lowest : ℕ
-lowest = 1074
-
-abbrev pub highest : ℕ
-highest = 1024
-
+-- no bound here goes further than this power of two times a whole number, far below what binary64 holds
 abbrev pub furthest : ℕ
 furthest = 900
 
@@ -104,9 +95,9 @@ under q j (fin false m e) (fin false n d) s v h =
 -- a bound is a binary64 number, of 53 digits at most and far below 2^1024
 bound-value : (q j : ℕ) → q < 2 ^ 53 → j ≤ furthest → HasValue (round binary64 false (q * 2 ^ j) 1) false (q * 2 ^ j) 1
 bound-value q j hq hj =
-    round-exact binary64 false (q * 2 ^ j) 1 q (j + lowest) (omega arith) hq
-    (le-trans (shl-lt {a = q} precision (j + lowest) hq) (pow-mono {i = precision + (j + lowest)} {j = lowest + highest} (omega arith)))
-    (rw (pow-add 2 j lowest, mul-one, mul-assoc))
+    round-exact binary64 false (q * 2 ^ j) 1 q (j + low binary64) (omega arith) hq
+    (le-trans (shl-lt {a = q} (prec binary64) (j + low binary64) hq) (pow-mono {i = prec binary64 + (j + low binary64)} {j = low binary64 + suc (emax binary64)} (omega arith)))
+    (rw (pow-add 2 j (low binary64), mul-one, mul-assoc))
 
 pub round-at-most : (s : Bool) (q j a c : ℕ) → q < 2 ^ 53 → j ≤ furthest → 0 < c → a ≤ q * 2 ^ j * c → AtMost q j (round binary64 s a c)
 round-at-most s q j a c hq hj hc h =

@@ -8,13 +8,13 @@ use native.Mathlib.Omega.{arith}
 use lib.IntN.{ℤ}
 use lib.Dec.{eqb}
 use lib.Pow.{pow-add}
-use lib.Ieee.{Float, nan, inf, fin, binary64, up, down, div}
+use lib.Ieee.{Float, nan, inf, fin, binary64, low, up, down, div}
 use lib.Ieee.Fits.{up-pos, down-pos}
 use lib.Ieee.Exact.{HasValue}
 use lib.Ieee.Order.{transfer}
 use lib.Ieee.Positive.{first-pos}
 use borrow.Author.Tests.{ne-eqb}
-use Rattle.finite.proofs.AtMost.{lowest, furthest, AtMost, round-at-most}
+use Rattle.finite.proofs.AtMost.{furthest, AtMost, round-at-most}
 use Rattle.finite.proofs.AtLeast.{AtLeast, Grained, Grain, round-at-least, round-grain}
 
 -- a number of that size is not 0
@@ -48,7 +48,7 @@ grained-quotient l j u v d e (inr h) g =
     let same : 1 * 2 ^ j * e * (u * 2 ^ l) ≡ u * e * 2 ^ (l + j) = rw one-mul (simp (pow-add, mul-assoc, mul-comm, mul-left-comm)) in
     inr (rw same at (mul-le-mul {n₁ = v} {m₁ = d} {n₂ = 1 * 2 ^ j * e} {m₂ = u * 2 ^ l} g h))
 
-pub div-grain : (l j k q i : ℕ) (x y : Float) → l + j ≤ lowest → Grain l x → AtMost 1 j y → AtLeast k y → AtMost q i (div binary64 x y) → Grain (l + j) (div binary64 x y)
+pub div-grain : (l j k q i : ℕ) (x y : Float) → l + j ≤ low binary64 → Grain l x → AtMost 1 j y → AtLeast k y → AtMost q i (div binary64 x y) → Grain (l + j) (div binary64 x y)
 unfolding div
 div-grain l j k q i nan y hl h g a f = absurd h
 div-grain l j k q i (inf s) y hl h g a f = absurd h

@@ -1,11 +1,12 @@
--- Sides that pass their test are within the limits.
+-- Sides that pass their test are within the limits, and so are the rows and samples of their grid.
 use mathlib.Core.Path.{_≡_}
 use mathlib.Core.Bool.{true, _&&_}
-use Prim.Native.Nat.{ℕ, _≤_}
+use Prim.Native.Nat.{ℕ, _*_, _≤_}
+use native.Mathlib.Nat.{mul-le-mul}
 use lib.Dec.{leb}
 use borrow.Author.Tests.{leb-true}
 use Rattle.laws.proofs.Tests.{both}
-use Rattle.grid.specs.Limits.{leastSide, mostSide}
+use Rattle.grid.specs.Limits.{leastSide, mostSide, mostRows, mostSamples}
 use Rattle.grid.specs.Sides.{sideFits, sidesFit}
 use Rattle.grid.specs.Work.{SidesFit}
 
@@ -22,3 +23,10 @@ sides-within nx ny nz h =
     let y = side-within ny (t .0) in
     let z = side-within nz (t .1) in
     record { least-x = x .0; most-x = x .1; least-y = y .0; most-y = y .1; least-z = z .0; most-z = z .1 }
+
+module _ (nx ny nz : ℕ) (fit : SidesFit nx ny nz) where
+  pub rows-most : ny * nz ≤ mostRows
+  rows-most = mul-le-mul {n₁ = ny} {m₁ = nz} {n₂ = mostSide} {m₂ = mostSide} (fit .most-y) (fit .most-z)
+
+  pub samples-most : nx * (ny * nz) ≤ mostSamples
+  samples-most = mul-le-mul {n₁ = nx} {m₁ = ny * nz} {n₂ = mostSide} {m₂ = mostRows} (fit .most-x) rows-most

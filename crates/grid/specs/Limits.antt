@@ -1,4 +1,4 @@
--- Document 01, "Numbers and sizes": every bound of the base, here and nowhere else. Samples and the grey value are numbers of 16 bits, so that the code needs no bound of theirs.
+-- Document 01, "Numbers and sizes": every bound of the base, with what follows from it, here and nowhere else. Samples and the grey value are numbers of 16 bits, so that the code needs no bound of theirs.
 use Prim.Native.Nat.{ℕ, _*_, _-_, _/_}
 
 -- each side nx, ny, nz
@@ -40,7 +40,7 @@ mostCoordinate = unit * (mostSide - 1)
 abbrev pub coordinateDigits : ℕ
 coordinateDigits = 14
 
--- "Areas and mean curvature": the window of N·4^s has its end, and does not reach it, at 2^60, and begins at 2^58. No N is beyond its end.
+-- "Areas and mean curvature": s brings N·4^s into a window, from 2^58 up to, and not reaching, 2^60, as powers of two. Every N is below its end.
 abbrev pub windowTo : ℕ
 windowTo = 60
 

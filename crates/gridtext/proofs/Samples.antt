@@ -1,9 +1,8 @@
 -- Line 1 and the samples of a small grid.
 use mathlib.Core.Path.{_≡_, refl, ap, sym, _∙_}
 use mathlib.Core.List.{List, [], _∷_}
-use mathlib.Core.Bool.{true, and-false}
-use Prim.Native.Nat.{ℕ, _+_, _*_, _-_, _≤_, _<_}
-use native.Mathlib.Nat.{mul-le-mul}
+use mathlib.Core.Bool.{and-false}
+use Prim.Native.Nat.{ℕ, _+_, _-_, _≤_, _<_}
 use native.Mathlib.Numerals.{add-one}
 use native.Mathlib.Omega.{arith}
 use lib.ListN.{length, getD, take, drop, set}
@@ -11,14 +10,11 @@ use lib.Seq.{take-suc, length-take-le, getD-take, take-at}
 use borrow.Author.Tests.{eq-eqb, ne-eqb}
 use Rattle.laws.specs.Room.{laid}
 use Rattle.laws.proofs.Rooms.{laid-next}
-use Rattle.grid.specs.Limits.{mostSide, mostNumber}
-use Rattle.grid.specs.Sides.{sidesFit}
-use Rattle.grid.proofs.Sides.{sides-within}
+use Rattle.grid.specs.Limits.{mostNumber}
 use Rattle.reading.specs.Reading.{bad, got, after, readRow, GotRows, malformed, rows}
 use Rattle.reading.specs.Answers.{answeredRows}
 use Rattle.gridtext.specs.Promise.{samplesFilled}
 use Rattle.gridtext.specs.Grid.{letterG, headOf, readHead}
-use Rattle.gridtext.specs.declared.Head.{Head}
 
 -- a copy to the front of a room, number by number
 pub copy-begins : (xs room : List ℕ) → room ≡ laid (take 0 xs) room
@@ -29,13 +25,6 @@ pub copy-next : (xs room : List ℕ) (i : ℕ) → i < length xs → i < length 
 copy-next xs room i l m =
     let e : length (take i xs) ≡ i = length-take-le i xs (omega arith) in
     rw (add-one, take-suc xs i 0 l) (ap (λ k. set (laid (take i xs) room) k (getD xs i 0)) (sym e) ∙ laid-next (take i xs) room (getD xs i 0) (rw e m))
-
--- the sides are within the limits
-pub rows-small : (h : Head) → sidesFit (h .nx) (h .ny) (h .nz) ≡ true → h .ny * h .nz ≤ mostSide * mostSide
-rows-small h f = let s = sides-within (h .nx) (h .ny) (h .nz) f in mul-le-mul (s .most-y) (s .most-z)
-
-pub samples-small : (h : Head) → sidesFit (h .nx) (h .ny) (h .nz) ≡ true → h .nx * (h .ny * h .nz) ≤ mostSide * (mostSide * mostSide)
-samples-small h f = mul-le-mul (sides-within (h .nx) (h .ny) (h .nz) f .most-x) (rows-small h f)
 
 -- line 1, by its first two bytes
 pub head-short : (input : List ℕ) → length input < 2 → readHead input ≡ bad

@@ -1,5 +1,6 @@
 -- The greatest numbers of a small grid, of at most 512 samples: they size the program's rooms.
 use Prim.Native.Nat.{ℕ, _*_}
+use Rattle.cube.specs.Answer.{mostCaseTriangles}
 use Rattle.grid.specs.Limits.{mostSmall}
 use Rattle.gridtext.specs.Grid.{mostRead}
 use Rattle.meshtext.specs.MeshText.{longest}
@@ -10,7 +11,7 @@ mostSmallPoints = 3 * mostSmall
 
 -- a case has at most five triangles, and there are fewer cubes than samples
 abbrev pub mostSmallTriangles : ℕ
-mostSmallTriangles = 5 * mostSmall
+mostSmallTriangles = mostCaseTriangles * mostSmall
 
 -- no more of a text is looked at
 abbrev pub mostInput : ℕ

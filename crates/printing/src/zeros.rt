@@ -4,6 +4,7 @@ ghost use mathlib.Core.Path.{_≡_};
 ghost use Prim.Native.Nat.{_+_, _*_};
 ghost use lib.ListN.{length};
 ghost use Rattle.printing.specs.Sizes.{mostSmallPoints, mostSmallTriangles, mostInput, mostOutput};
+use cube::MOST_CASE_TRIANGLES;
 use grid::limits::LONGEST_NUMBER;
 use grid::limits::MOST_SMALL;
 use grid::limits::NUMBER_DIGITS;
@@ -12,7 +13,7 @@ use grid::limits::NUMBER_DIGITS;
 pub const MOST_SMALL_POINTS: usize = 3 * (MOST_SMALL as usize);
 
 // A case has at most five triangles, and there are fewer cubes than samples.
-pub const MOST_SMALL_TRIANGLES: usize = 5 * (MOST_SMALL as usize);
+pub const MOST_SMALL_TRIANGLES: usize = MOST_CASE_TRIANGLES * (MOST_SMALL as usize);
 
 // A number of the input and the byte that ends it. Line 1 has six behind its letter and tab; one more byte shows that something follows.
 const LONGEST_SAMPLE: usize = NUMBER_DIGITS + 1;

@@ -3,9 +3,10 @@ use mathlib.Core.Path.{_≡_}
 use Prim.Native.Nat.{ℕ, _+_, _*_, _<_, _≤_}
 use native.Mathlib.Nat.{mul-le-mul, mul-add, mul-one, mul-zero, add-zero, zero-add}
 use native.Mathlib.Omega.{arith}
-use Rattle.grid.specs.Limits.{mostSide, mostRows, mostSamples, mostEdges}
+use Rattle.grid.specs.Limits.{mostSide, mostRows, mostEdges}
 use Rattle.grid.specs.Grid.{axes, sampleCount, edgeCount}
 use Rattle.grid.specs.Work.{SidesFit}
+use Rattle.grid.proofs.Sides.{samples-most}
 use Rattle.laws.proofs.Digits.{low-lt}
 use Rattle.rows.specs.declared.Sides.{Sides}
 use Rattle.rows.specs.Rows.{sizeOf, firstEdge}
@@ -21,15 +22,9 @@ module _ (ny nz : ℕ) (most-y : ny ≤ mostSide) (most-z : nz ≤ mostSide) (y 
   pub over-small : y < ny → z + 1 < nz → y + ny * z + ny < mostRows
   over-small hy hz = omega (arith, low-lt y ny (z + 1) nz hy hz, mul-le-mul most-y most-z, mul-add ny z 1, mul-one ny)
 
--- the samples and the edges of a grid
-module _ (sides : Sides) (fit : SidesFit (sides .nx) (sides .ny) (sides .nz)) where
-  pub samples-few : sampleCount (sizeOf sides) ≤ mostSamples
-  samples-few =
-      let rows : sides .ny * sides .nz ≤ mostRows = mul-le-mul (fit .most-y) (fit .most-z) in
-      mul-le-mul (fit .most-x) rows
-
-  pub edges-few : edgeCount axes (sizeOf sides) ≤ mostEdges
-  edges-few = omega (arith, samples-few)
+-- the edges of a grid
+pub edges-few : (sides : Sides) → SidesFit (sides .nx) (sides .ny) (sides .nz) → edgeCount axes (sizeOf sides) ≤ mostEdges
+edges-few sides fit = omega (arith, samples-most (sides .nx) (sides .ny) (sides .nz) fit)
 
 -- the samples of a row
 module _ (sides : Sides) (y z : ℕ) (hy : y < sides .ny) (hz : z < sides .nz) where

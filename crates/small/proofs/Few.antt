@@ -10,7 +10,7 @@ use Rattle.laws.specs.Mesh.{rename}
 use Rattle.laws.proofs.Keep.{length-keep}
 use Rattle.laws.proofs.Ranges.{count-le, sum-most}
 use Rattle.laws.proofs.Box.{length-box}
-use Rattle.cube.specs.Answer.{triangles, count}
+use Rattle.cube.specs.Answer.{mostCaseTriangles, triangles, count}
 use Rattle.cube.proofs.Corners.{case-small}
 use Rattle.grid.specs.Grid.{Size, axes, sampleCount, edgeCount, crossed}
 use Rattle.grid.specs.Point.{pointEdges, number}
@@ -22,13 +22,13 @@ module _ (n : Size) (above : ℕ → Bool) where
   unfolding pointEdges
   few-points = rw (length-keep (edgeCount axes n) (crossed axes n above)) (count-le (edgeCount axes n) (crossed axes n above))
 
-  cube-few : (x y z : ℕ) → length (cubeTriangles n above x y z) ≤ 5
+  cube-few : (x y z : ℕ) → length (cubeTriangles n above x y z) ≤ mostCaseTriangles
   unfolding cubeTriangles caseAt count
   cube-few x y z =
       rw (length-map (triangles (caseAt n above x y z)) (rename (gridEdge n x y z)))
       (count-most (caseAt n above x y z) (case-small (λ c. above (cornerSite n x y z c))))
 
-  pub few-triangles : length (mesh n above) ≤ 5 * sampleCount n
+  pub few-triangles : length (mesh n above) ≤ mostCaseTriangles * sampleCount n
   unfolding mesh edgeMesh
   few-triangles =
       let f : ℕ → ℕ → ℕ → ℕ = λ x y z. length (cubeTriangles n above x y z) in
@@ -37,8 +37,8 @@ module _ (n : Size) (above : ℕ → Bool) where
       let cz = n .nz - 1 in
       let long : length (mesh n above) ≡ sumTo cz (λ z. sumTo cy (λ y. sumTo cx (λ x. f x y z))) =
       length-map (edgeMesh n above) (rename (number axes n above)) ∙ length-box cx cy cz (cubeTriangles n above) in
-      let most : sumTo cz (λ z. sumTo cy (λ y. sumTo cx (λ x. f x y z))) ≤ 5 * cx * cy * cz =
-      sum-most (5 * cx * cy) cz _ (λ z lz. sum-most (5 * cx) cy _ (λ y ly. sum-most 5 cx _ (λ x lx. cube-few x y z))) in
-      let same : 5 * cx * cy * cz ≡ 5 * (cx * (cy * cz)) = rw (mul-assoc, mul-assoc) in
+      let most : sumTo cz (λ z. sumTo cy (λ y. sumTo cx (λ x. f x y z))) ≤ mostCaseTriangles * cx * cy * cz =
+      sum-most (mostCaseTriangles * cx * cy) cz _ (λ z lz. sum-most (mostCaseTriangles * cx) cy _ (λ y ly. sum-most mostCaseTriangles cx _ (λ x lx. cube-few x y z))) in
+      let same : mostCaseTriangles * cx * cy * cz ≡ mostCaseTriangles * (cx * (cy * cz)) = rw (mul-assoc, mul-assoc) in
       let fewer : cx * (cy * cz) ≤ sampleCount n = mul-le-mul (omega arith) (mul-le-mul (omega arith) (omega arith)) in
       omega (arith, long, most, same, fewer)

@@ -77,7 +77,7 @@ fifteen ts =
     let at : ℕ → List ℕ = λ n. cornersOf (getD ts n (triangle 0 0 0)) in
     flatten (at 0 ∷ at 1 ∷ at 2 ∷ at 3 ∷ at 4 ∷ [])
 
-corners-first : (ts : List Triangle) → length ts ≤ 5 → take (3 * length ts) (fifteen ts) ≡ flat ts
+corners-first : (ts : List Triangle) → length ts ≤ mostCaseTriangles → take (3 * length ts) (fifteen ts) ≡ flat ts
 unfolding fifteen flatten flat flatMap
 corners-first [] h = refl
 corners-first (a ∷ []) h = refl
@@ -90,8 +90,8 @@ corners-first (a ∷ b ∷ c ∷ d ∷ e ∷ f ∷ ts) h = absurd (omega arith)
 pub corner-in-table : (k j : ℕ) → k < cases → j < 3 * count k → getD table (caseLength * k + j) 0 ≡ getD (flat (triangles k)) j 0
 unfolding count row answer cornersAt fifteen
 corner-in-table k j h l =
-    let most : length (triangles k) ≤ 5 = count-most k h in
-    let here : caseLength * k + j ≡ k * 15 + j = omega arith in
+    let most : length (triangles k) ≤ mostCaseTriangles = count-most k h in
+    let here : caseLength * k + j ≡ k * caseLength + j = omega arith in
     ap (λ n. getD table n 0) here
     ∙ entry k j h (omega arith)
     ∙ sym (getD-take (3 * length (triangles k)) (fifteen (triangles k)) j 0 l)

@@ -4,10 +4,11 @@ use Prim.Native.Nat.{_/_, _%_, _<_}
 use native.Mathlib.Omega.{arith}
 use borrow.Author.Needs.{needs}
 use Rattle.grid.specs.Limits.{mostSamples}
+use Rattle.grid.proofs.Sides.{samples-most}
 use Rattle.rows.specs.Rows.{sizeOf}
 use Rattle.edgepoints.specs.EdgePoint.{pointBy}
 use Rattle.laws.proofs.Binary.{bit-times}
-use Rattle.rows.proofs.Bounds.{samples-few, sample-small}
+use Rattle.rows.proofs.Bounds.{sample-small}
 use Rattle.edgepoints.proofs.Marks.{stands}
 use Rattle.edgepoints.proofs.point_on.Statement.{statement}
 use Rattle.edgepoints.proofs.point_on.Tie as tie
@@ -19,7 +20,7 @@ few c =
     omega (
       arith,
       at .site,
-      samples-few (c .args .sides) (at .fit),
+      samples-most (c .args .sides .nx) (c .args .sides .ny) (c .args .sides .nz) (at .fit),
       sample-small (c .args .sides) (c .args .at .y) (c .args .at .z) (at .below-y) (at .below-z) (c .args .at .x) (at .below-x),
     )
 

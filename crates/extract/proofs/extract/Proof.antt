@@ -4,11 +4,10 @@ use mathlib.Core.Bool.{true}
 use native.Mathlib.Omega.{arith}
 use borrow.Author.Tests.{not-true, not-false}
 use Rattle.grid.specs.Sides.{sidesFit}
-use Rattle.grid.proofs.Sides.{sides-within}
+use Rattle.grid.proofs.Sides.{sides-within, rows-most, samples-most}
 use Rattle.extract.specs.Extraction.{Rooms}
 use Rattle.extract.specs.Promise.{rooms}
-use Rattle.extract.proofs.Ways.{rows-most}
-use Rattle.extract.proofs.Refusals.{samples-most, refused-sides, refused-samples, refused-work, past-lengths}
+use Rattle.extract.proofs.Refusals.{refused-sides, refused-samples, refused-work, past-lengths}
 use borrow.Author.Needs.{needs}
 use Rattle.extract.proofs.extract.Statement.{statement}
 use Rattle.extract.proofs.extract.Tie as tie

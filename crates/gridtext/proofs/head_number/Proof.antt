@@ -2,8 +2,8 @@
 use mathlib.Core.Path.{sym, _∙_}
 use native.Mathlib.Omega.{arith}
 use borrow.Author.Tests.{not-true, not-false, le-leb, lt-leb}
+use Rattle.grid.proofs.Sides.{sides-within, rows-most, samples-most}
 use Rattle.gridtext.specs.Grid.{smoothingFits, headNumber}
-use Rattle.gridtext.proofs.Samples.{rows-small, samples-small}
 use borrow.Author.Needs.{needs}
 use Rattle.gridtext.proofs.head_number.Statement.{statement}
 use Rattle.gridtext.proofs.head_number.Tie as tie
@@ -16,10 +16,16 @@ unfolding headNumber smoothingFits
 returns c = rw (sym (c .before .sides-fit .ensures) ∙ not-true _ (c .if1 .taken))
 
 mul-if2 : tie.Need-mul-if2
-mul-if2 c = omega (arith, rows-small (c .before .before .before .args .head) (sym (c .before .before .sides-fit .ensures) ∙ not-false _ (c .before .if1 .left)))
+mul-if2 c =
+    let h = c .before .before .before .args .head in
+    let fit = sides-within (h .nx) (h .ny) (h .nz) (sym (c .before .before .sides-fit .ensures) ∙ not-false _ (c .before .if1 .left)) in
+    omega (arith, rows-most (h .nx) (h .ny) (h .nz) fit)
 
 mul-if2-2 : tie.Need-mul-if2-2
-mul-if2-2 c = omega (arith, samples-small (c .before .before .before .before .args .head) (sym (c .before .before .before .sides-fit .ensures) ∙ not-false _ (c .before .before .if1 .left)))
+mul-if2-2 c =
+    let h = c .before .before .before .before .args .head in
+    let fit = sides-within (h .nx) (h .ny) (h .nz) (sym (c .before .before .before .sides-fit .ensures) ∙ not-false _ (c .before .before .if1 .left)) in
+    omega (arith, samples-most (h .nx) (h .ny) (h .nz) fit)
 
 returns-2 : tie.Need-returns-2
 unfolding headNumber smoothingFits

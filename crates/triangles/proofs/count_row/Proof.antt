@@ -6,7 +6,7 @@ use borrow.Author.Needs.{needs}
 use lib.Count.{trailingZeros}
 use lib.ListN.{getD}
 use Rattle.laws.specs.Bits.{wordBits}
-use Rattle.cube.specs.Answer.{count}
+use Rattle.cube.specs.Answer.{mostCaseTriangles, count}
 use Rattle.cube.specs.Cube.{cases}
 use Rattle.triangles.specs.Row.{rowCase, rowCount}
 use Rattle.triangles.proofs.Cases.{row-case-small, count-most}
@@ -69,7 +69,7 @@ countHere c = getD (begun (c .before .before) .args .counts .now) (c .case .resu
 count-is : (c : tie.After-case Inv-loop μ-loop) → countHere c ≡ count (caseHere (c .before .before))
 count-is c = count-read _ _ (begun (c .before .before) .pre .0) (case-small c) ∙ ap count (case-is c)
 
-count-small : (c : tie.After-case Inv-loop μ-loop) → countHere c ≤ 5
+count-small : (c : tie.After-case Inv-loop μ-loop) → countHere c ≤ mostCaseTriangles
 count-small c =
     omega (arith, count-is c, count-most (caseHere (c .before .before)) (row-case-small (begun (c .before .before) .args .row) (cubeHere (c .before .before))))
 

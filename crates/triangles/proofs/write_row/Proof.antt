@@ -7,7 +7,7 @@ use borrow.Author.Needs.{needs}
 use lib.Count.{trailingZeros}
 use lib.ListN.{length, getD}
 use Rattle.laws.specs.Bits.{wordBits}
-use Rattle.cube.specs.Answer.{count}
+use Rattle.cube.specs.Answer.{mostCaseTriangles, count}
 use Rattle.cube.specs.Cube.{cases}
 use Rattle.triangles.specs.Row.{rowCase, rowNumbers}
 use Rattle.triangles.specs.Walk.{CubeRoom, Written}
@@ -104,7 +104,7 @@ countHere c = getD (begun (c .before .before) .args .counts .now) (c .case .resu
 count-is : (c : tie.After-case Inv-loop μ-loop) → countHere c ≡ count (c .case .result)
 count-is c = count-read _ _ (begun (c .before .before) .pre .1 .0) (case-small c)
 
-count-small : (c : tie.After-case Inv-loop μ-loop) → countHere c ≤ 5
+count-small : (c : tie.After-case Inv-loop μ-loop) → countHere c ≤ mostCaseTriangles
 count-small c = omega (arith, count-is c, count-most (c .case .result) (case-small c))
 
 element-copy-out-many : tie.Need-element-copy-out-many Inv-loop μ-loop

@@ -7,10 +7,11 @@ use lib.Count.{trailingZeros}
 use denote.Ref.{now}
 use Rattle.laws.specs.Bits.{wordBits, halved}
 use Rattle.grid.specs.Limits.{mostRows, mostSamples}
+use Rattle.grid.proofs.Sides.{samples-most}
 use Rattle.rows.specs.Rows.{firstEdge}
 use Rattle.edgepoints.specs.EdgePoint.{PointRooms, pointRooms}
 use Rattle.pointplaces.specs.Places.{countAll, Advanced}
-use Rattle.rows.proofs.Bounds.{row-small, samples-few, sample-small, next-row}
+use Rattle.rows.proofs.Bounds.{row-small, sample-small, next-row}
 use Rattle.rows.proofs.Cut.{row-passed, Tested, tested}
 use Rattle.rows.proofs.Busy.{Found, found, rest-uncut}
 use Rattle.pointplaces.proofs.Placing.{SameLengths, room-kept, none-passed, advanced-none, advanced-on, sample-passed}
@@ -64,7 +65,7 @@ sample-few : (s : tie.Start Inv-loop μ-loop) (x : ℕ) → x < s .args .sides .
 sample-few s x h =
     omega (
       arith,
-      samples-few (s .args .sides) (s .pre .0 .ready .fit),
+      samples-most (s .args .sides .nx) (s .args .sides .ny) (s .args .sides .nz) (s .pre .0 .ready .fit),
       sample-small (s .args .sides) (s .args .y) (s .args .z) (s .pre .1 .0) (s .pre .1 .1 .0) x h,
     )
 
