@@ -1,7 +1,7 @@
--- A number r + m q with r below m: its remainder and quotient by m, and its bound.
+-- A number r + m q with r below m: its remainder and quotient by m, and its bound; and where the m numbers with one quotient end.
 use mathlib.Core.Path.{_≡_}
-use Prim.Native.Nat.{ℕ, _+_, _*_, _/_, _%_, _<_}
-use native.Mathlib.Nat.{mul-comm}
+use Prim.Native.Nat.{ℕ, _+_, _*_, _/_, _%_, _<_, _≤_}
+use native.Mathlib.Nat.{mul-comm, mul-suc, mul-le-mul-left}
 use native.Mathlib.Omega.{arith}
 use lib.Arith.{digits-div, digits-mod, digits-lt}
 
@@ -16,3 +16,6 @@ low-div r m q h = rw (swapped r m q) (digits-div q h)
 
 pub low-lt : (r m q n : ℕ) → r < m → q < n → r + m * q < m * n
 low-lt r m q n h k = omega (arith, mul-comm m q, mul-comm m n, digits-lt k h)
+
+pub block-end : (m q n : ℕ) → q < n → m * q + m ≤ m * n
+block-end m q n k = rw (← (mul-suc m q)) (mul-le-mul-left m k)

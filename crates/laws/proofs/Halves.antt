@@ -41,9 +41,8 @@ value-at f x (suc n) zero l = ap f (sym (add-zero x))
 value-at f x (suc n) (suc i) l = value-at f (x + 1) n i (omega arith) ∙ ap f (omega arith)
 
 -- the mask of n values has them for its bits
-pub bit-of-values : (f : ℕ → Bool) (n i : ℕ) → i < n → bit (bits (valuesFrom f 0 n)) i ≡ f i
-bit-of-values f n i l =
-    bit-of-bits (valuesFrom f 0 n) i (omega (arith, length-values f 0 n)) ∙ value-at f 0 n i l ∙ ap f (zero-add i)
+pub bit-of-values : (f : ℕ → Bool) (x n i : ℕ) → i < n → bit (bits (valuesFrom f x n)) i ≡ f (x + i)
+bit-of-values f x n i l = bit-of-bits (valuesFrom f x n) i (omega (arith, length-values f x n)) ∙ value-at f x n i l
 
 -- nothing set
 pub bit-of-zero : (i : ℕ) → bit 0 i ≡ false

@@ -1,24 +1,12 @@
--- Rows of samples as masks: a number for each row y + ny z, with bit x set when the row's sample x is above.
+-- Rows of samples as masks: a number for each row y + ny z, with bit x set when the row's sample x is above. Bits past a row's last sample say nothing.
 use mathlib.Core.Path.{_≡_}
 use mathlib.Core.List.{List}
 use mathlib.Core.Bool.{Bool}
-use Prim.Native.Nat.{ℕ, _+_, _*_, _-_, _/_, _%_, _<_}
+use Prim.Native.Nat.{ℕ, _*_, _/_, _%_, _<_}
 use lib.Dec.{ltb}
 use lib.ListN.{getD}
-use Rattle.laws.specs.Bits.{bits, bit, valuesFrom}
+use Rattle.laws.specs.Bits.{bit}
 use Rattle.grid.specs.Grid.{isAboveGrey}
-
--- is sample x of the row that starts at a sample above
-unfoldable pub rowAbove : ℕ → List ℕ → ℕ → ℕ → Bool
-rowAbove grey samples start x = isAboveGrey grey samples (start + x)
-
--- the mask of values from x on, up to n
-unfoldable pub maskFrom : (ℕ → Bool) → ℕ → ℕ → ℕ
-maskFrom f x n = bits (valuesFrom f x (n - x))
-
--- the mask of the row of nx samples that starts there
-unfoldable pub rowMask : ℕ → List ℕ → ℕ → ℕ → ℕ
-rowMask grey samples start nx = maskFrom (rowAbove grey samples start) 0 nx
 
 -- is sample s above, by its row's mask
 unfoldable pub maskAbove : ℕ → List ℕ → ℕ → Bool

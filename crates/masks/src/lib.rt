@@ -1,83 +1,137 @@
 // Rows of samples as masks, so that a few operations on words say where in a row something is crossed.
 ghost use mathlib.Core.Path.{_≡_};
-ghost use Prim.Native.Nat.{_+_, _*_, _<_, _≤_, _^_};
+ghost use Prim.Native.Nat.{_+_, _*_, _/_, _<_, _≤_, _^_};
 ghost use lib.Dec.{leb};
-ghost use lib.ListN.{length};
+ghost use lib.ListN.{length, getD};
 ghost use Rattle.laws.specs.Bits.{wordBits};
 ghost use Rattle.laws.specs.Range.{one-if};
-ghost use Rattle.masks.specs.Masks.{rowAbove, maskFrom, rowMask, Masked, AllSet};
+ghost use Rattle.masks.specs.Masks.{Masked, AllSet};
+ghost use Rattle.masks.specs.Flags.{mostFlagged, flagBytes, AreFlags, Flagged, fourBytes, flagMask, MaskOf, RowsMasked};
+use laws::WORD_BITS;
 
-// Masks of four and of eight samples are below these.
-const FOUR_SAMPLES: u64 = 16;
+// Samples that are flagged at a time, and the bytes of their flags: from each of them on a word can be gathered.
+const MOST_FLAGGED: usize = 1024;
 
-const EIGHT_SAMPLES: u64 = 256;
+const FLAG_BYTES: usize = MOST_FLAGGED + WORD_BITS as usize;
+
+const HALF_WORD: usize = WORD_BITS as usize / 2;
+
+// One, two, three and four bytes up.
+const BYTE: u64 = 256;
+
+const TWO_BYTES: u64 = BYTE * BYTE;
+
+const THREE_BYTES: u64 = BYTE * TWO_BYTES;
+
+const FOUR_BYTES: u64 = BYTE * THREE_BYTES;
+
+// Half a byte up.
+const HALF_BYTE: u64 = 16;
+
+// 2^24 + 2^17 + 2^10 + 2^3: the product with four flags a byte apart has them side by side from bit 24 on.
+const GATHER: u64 = 0x0102_0408;
 
 // 1 if the sample is above, else 0.
-fn above_bit(sample: u16, grey: u16) -> u64
-    ensures { λ r. ⌜ (r ≡ one-if (leb grey sample)) × (r ≤ 1) ⌝ }
+fn above_flag(sample: u16, grey: u16) -> u8
+    ensures { λ r. ⌜ r ≡ one-if (leb grey sample) ⌝ }
 {
     if grey <= sample { 1 } else { 0 }
 }
 
-// The mask of two samples.
-fn pair_mask(samples: &[u16], at: usize, grey: u16) -> u64
-    requires { ⌜ at + 2 ≤ length (now samples) ⌝ }
-    ensures { λ r. ⌜ (r ≡ rowMask grey (now (samples .entry)) at 2) × (r < 4) ⌝ }
+// Flags so many samples from `start` on: a loop in which the compiler takes sixteen samples at a time.
+fn flag_samples(samples: &[u16], start: usize, many: usize, grey: u16, flags: &mut [u8])
+    requires { ⌜ start + many ≤ length (now samples) ⌝ }
+    requires { ⌜ many ≤ length (now flags) ⌝ }
+    requires { ⌜ AreFlags (now flags) ⌝ }
+    ensures flags { λ _. ⌜ AreFlags (now (flags .exit)) ⌝ }
+    ensures flagged { λ _. ⌜ Flagged grey (now (samples .entry)) start many (now (flags .exit)) ⌝ }
 {
-    above_bit(samples[at], grey) + 2 * above_bit(samples[at + 1], grey)
-}
-
-// The mask of eight samples. Their bits are put together side by side, so that none waits for another.
-fn eight_mask(samples: &[u16], at: usize, grey: u16) -> u64
-    requires { ⌜ at + 8 ≤ length (now samples) ⌝ }
-    ensures { λ r. ⌜ (r ≡ rowMask grey (now (samples .entry)) at 8) × (r < 2 ^ 8) ⌝ }
-{
-    let low = pair_mask(samples, at, grey) + 4 * pair_mask(samples, at + 2, grey);
-    let high = pair_mask(samples, at + 4, grey) + 4 * pair_mask(samples, at + 6, grey);
-    low + FOUR_SAMPLES * high
-}
-
-// The mask of a row's samples from `from` on: the few that are left over where a row is taken eight by eight.
-fn tail_mask(samples: &[u16], start: usize, from: usize, nx: usize, grey: u16) -> u64
-    requires { ⌜ (from ≤ nx) × (nx ≤ wordBits) × (start + nx ≤ length (now samples)) ⌝ }
-    ensures { λ r. ⌜ r ≡ maskFrom (rowAbove grey (now (samples .entry)) start) from nx ⌝ }
-{
-    let mut mask: u64 = 0;
-    let mut x = nx;
-    while from < x {
-        x -= 1;
-        mask = 2 * mask + above_bit(samples[start + x], grey);
+    for i in 0..many {
+        flags[i] = above_flag(samples[start + i], grey);
     }
-    mask
 }
 
-// The mask of the row of nx samples that starts at `start`.
-fn row_mask(samples: &[u16], start: usize, nx: usize, grey: u16) -> u64
-    requires { ⌜ (nx ≤ wordBits) × (start + nx ≤ length (now samples)) ⌝ }
-    ensures { λ r. ⌜ r ≡ rowMask grey (now (samples .entry)) start nx ⌝ }
+// One flag.
+fn flag_at(flags: &[u8; FLAG_BYTES], i: usize) -> u64
+    requires { ⌜ i < flagBytes ⌝ }
+    requires { ⌜ AreFlags (now flags) ⌝ }
+    ensures { λ r. ⌜ (r ≡ getD (now (flags .entry)) i 0) × (r ≤ 1) ⌝ }
 {
-    let mut left = nx / 8;
-    let mut x = 8 * left;
-    let mut mask = tail_mask(samples, start, x, nx, grey);
-    while 0 < left {
-        left -= 1;
-        x -= 8;
-        mask = EIGHT_SAMPLES * mask + eight_mask(samples, start + x, grey);
-    }
-    mask
+    flags[i] as u64
 }
 
-// The masks of all rows.
+// Four flags as one number; the compiler makes it one read.
+fn four_bytes(flags: &[u8; FLAG_BYTES], at: usize) -> u64
+    requires { ⌜ at + 4 ≤ flagBytes ⌝ }
+    requires { ⌜ AreFlags (now flags) ⌝ }
+    ensures { λ r. ⌜ (r ≡ fourBytes (now (flags .entry)) at) × (r < 2 ^ 32) ⌝ }
+{
+    let low = flag_at(flags, at) + BYTE * flag_at(flags, at + 1);
+    let high = flag_at(flags, at + 2) + BYTE * flag_at(flags, at + 3);
+    low + TWO_BYTES * high
+}
+
+// The mask of eight flags: the second four are laid half a byte above the first, and one product brings all eight together.
+fn eight_mask(flags: &[u8; FLAG_BYTES], at: usize) -> u64
+    requires { ⌜ at + 8 ≤ flagBytes ⌝ }
+    requires { ⌜ AreFlags (now flags) ⌝ }
+    ensures { λ r. ⌜ (r ≡ flagMask (now (flags .entry)) at 8) × (r < 2 ^ 8) ⌝ }
+{
+    let spread = four_bytes(flags, at) + HALF_BYTE * four_bytes(flags, at + 4);
+    spread * GATHER / THREE_BYTES % BYTE
+}
+
+// The mask of half a word's flags. Eights are put together side by side, so that none waits for another.
+fn half_mask(flags: &[u8; FLAG_BYTES], at: usize) -> u64
+    requires { ⌜ at + wordBits / 2 ≤ flagBytes ⌝ }
+    requires { ⌜ AreFlags (now flags) ⌝ }
+    ensures { λ r. ⌜ (r ≡ flagMask (now (flags .entry)) at (wordBits / 2)) × (r < 2 ^ 32) ⌝ }
+{
+    let low = eight_mask(flags, at) + BYTE * eight_mask(flags, at + 8);
+    let high = eight_mask(flags, at + 2 * 8) + BYTE * eight_mask(flags, at + 3 * 8);
+    low + TWO_BYTES * high
+}
+
+// The mask of a row whose flags stand from `at` on. Its bits past the row's end are flags of other rows.
+fn row_mask(flags: &[u8; FLAG_BYTES], at: usize, nx: usize) -> u64
+    requires { ⌜ (nx ≤ wordBits) × (at ≤ mostFlagged) ⌝ }
+    requires { ⌜ AreFlags (now flags) ⌝ }
+    ensures { λ r. ⌜ MaskOf (now (flags .entry)) at nx r ⌝ }
+{
+    let low = half_mask(flags, at);
+    if nx <= HALF_WORD {
+        return low;
+    }
+    low + FOUR_BYTES * half_mask(flags, at + HALF_WORD)
+}
+
+// The masks of so many rows from row `from` on, whose flags stand one after the other.
+fn mask_rows(flags: &[u8; FLAG_BYTES], nx: usize, from: usize, many: usize, masks: &mut [u64])
+    requires { ⌜ (0 < nx) × (nx ≤ wordBits) × (nx * many ≤ mostFlagged) ⌝ }
+    requires { ⌜ from + many ≤ length (now masks) ⌝ }
+    requires { ⌜ AreFlags (now flags) ⌝ }
+    ensures { λ _. ⌜ RowsMasked (now (flags .entry)) nx from many (now (masks .entry)) (now (masks .exit)) ⌝ }
+{
+    let mut at = 0;
+    for r in 0..many {
+        masks[from + r] = row_mask(flags, at, nx);
+        at += nx;
+    }
+}
+
+// The masks of all rows. Many rows are flagged before the first of them is gathered: what was stored just before in another width is read late.
 pub fn fill(samples: &[u16], nx: usize, rows: usize, grey: u16, masks: &mut [u64])
     requires { ⌜ (nx ≤ wordBits) × (rows ≤ length (now masks)) × (length (now samples) ≡ nx * rows) × (0 < nx) ⌝ }
     ensures { λ _. ⌜ Masked nx rows grey (now (samples .entry)) (now (masks .exit)) ⌝ }
 {
+    let mut flags = [0u8; FLAG_BYTES];
+    let most = MOST_FLAGGED / nx;
     let mut r = 0;
-    let mut start = 0;
     while r < rows {
-        masks[r] = row_mask(samples, start, nx, grey);
-        r += 1;
-        start += nx;
+        let many = rooms::least(most, rows - r);
+        flag_samples(samples, nx * r, nx * many, grey, &mut flags);
+        mask_rows(&flags, nx, r, many, masks);
+        r += many;
     }
 }
 

@@ -1,5 +1,6 @@
 // The points of a grid, numbered row by row from the masks of its rows.
 ghost use mathlib.Core.Path.{_≡_};
+ghost use Prim.Native.Nat.{_*_, _≤_};
 ghost use lib.ListN.{length};
 ghost use Rattle.grid.specs.Grid.{axes, edgeCount};
 ghost use Rattle.grid.specs.Point.{pointEdges};
@@ -8,13 +9,13 @@ ghost use Rattle.masks.specs.Masks.{maskAbove};
 
 mod numbers;
 
-use grid::limits::MOST_ROWS;
 use numbers::number_layer;
 use rows::Sides;
 
 // Writes the number of its point at each crossed edge of the work room, and answers how many points there are.
-pub fn number(nx: usize, ny: usize, nz: usize, masks: &[u64; MOST_ROWS], work: &mut [u32]) -> u32
+pub fn number(nx: usize, ny: usize, nz: usize, masks: &[u64], work: &mut [u32]) -> u32
     requires { ⌜ SidesFit nx ny nz ⌝ }
+    requires { ⌜ ny * nz ≤ length (now masks) ⌝ }
     requires { ⌜ length (now work) ≡ edgeCount axes (size nx ny nz) ⌝ }
     ensures counted { λ r. ⌜ r ≡ length (pointEdges axes (size nx ny nz) (maskAbove nx (now (masks .entry)))) ⌝ }
     ensures numbered { λ r. ⌜ Numbered (size nx ny nz) (maskAbove nx (now (masks .entry))) (now (work .exit)) ⌝ }

@@ -5,7 +5,6 @@ ghost use lib.ListN.{length, set};
 ghost use Rattle.grid.specs.Limits.{mostEdges};
 ghost use Rattle.rows.specs.Rows.{Ready, firstEdge, nextNumber};
 ghost use Rattle.pointnumbers.specs.Numbers.{SampleNumbered, NumberedTo};
-use grid::limits::MOST_ROWS;
 use rows::Cuts;
 use rows::Sides;
 use rows::busy_word;
@@ -38,15 +37,8 @@ fn number_sample(cuts: Cuts, e: usize, n: u32, work: &mut [u32]) -> u32
 }
 
 // The points of one row, from a number on, at one busy sample after the other. Answers the number after the last.
-fn number_row(
-    sides: Sides,
-    y: usize,
-    z: usize,
-    from: u32,
-    masks: &[u64; MOST_ROWS],
-    work: &mut [u32],
-) -> u32
-    requires { ⌜ Ready sides ⌝ }
+fn number_row(sides: Sides, y: usize, z: usize, from: u32, masks: &[u64], work: &mut [u32]) -> u32
+    requires { ⌜ Ready sides (now masks) ⌝ }
     requires { ⌜ y < sides .ny ⌝ }
     requires { ⌜ z < sides .nz ⌝ }
     requires { ⌜ NumberedTo sides (now masks) (firstEdge sides y z) from (now work) ⌝ }
@@ -69,14 +61,8 @@ fn number_row(
 }
 
 // The points of one layer, row by row.
-pub fn number_layer(
-    sides: Sides,
-    z: usize,
-    from: u32,
-    masks: &[u64; MOST_ROWS],
-    work: &mut [u32],
-) -> u32
-    requires { ⌜ Ready sides ⌝ }
+pub fn number_layer(sides: Sides, z: usize, from: u32, masks: &[u64], work: &mut [u32]) -> u32
+    requires { ⌜ Ready sides (now masks) ⌝ }
     requires { ⌜ z < sides .nz ⌝ }
     requires { ⌜ NumberedTo sides (now masks) (firstEdge sides 0 z) from (now work) ⌝ }
     ensures { λ r. ⌜ NumberedTo sides (now (masks .entry)) (firstEdge sides 0 (z + 1)) r (now (work .exit)) ⌝ }

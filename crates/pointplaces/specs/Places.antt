@@ -30,7 +30,7 @@ pub record SamplePlaced (sides : Sides) (grey : ℕ) (samples : List ℕ) (s n n
 
 -- the samples are the grid's, and the masks say which of them are above
 pub record Given (sides : Sides) (grey : ℕ) (samples masks : List ℕ) : Type 0 where
-  pub ready : Ready sides
+  pub ready : Ready sides masks
   pub whole : length samples ≡ sampleCount (sizeOf sides)
   pub masked : Masked (sides .nx) (sides .ny * sides .nz) grey samples masks
 

@@ -11,7 +11,6 @@ ghost use Rattle.masks.specs.Masks.{maskAbove, Masked};
 
 mod places;
 
-use grid::limits::MOST_ROWS;
 use places::place_layer;
 use rows::Sides;
 
@@ -22,12 +21,13 @@ pub fn place(
     nz: usize,
     grey: u16,
     samples: &[u16],
-    masks: &[u64; MOST_ROWS],
+    masks: &[u64],
     points: &mut [u32],
     edges: &mut [u32],
     marks: &mut [u8],
 )
     requires { ⌜ SidesFit nx ny nz ⌝ }
+    requires { ⌜ ny * nz ≤ length (now masks) ⌝ }
     requires { ⌜ length (now samples) ≡ sampleCount (size nx ny nz) ⌝ }
     requires { ⌜ Masked nx (ny * nz) grey (now samples) (now masks) ⌝ }
     requires { ⌜ 3 * length (pointEdges axes (size nx ny nz) (maskAbove nx (now masks))) ≤ length (now points) ⌝ }

@@ -6,7 +6,6 @@ ghost use Rattle.edgepoints.specs.EdgePoint.{pointRooms, Standing, RoomsFor};
 ghost use Rattle.pointplaces.specs.Places.{SamplePlaceable, SamplePlaced, Given, countBelow, countAll, Advanced};
 use edgepoints::Sample;
 use edgepoints::place_edge;
-use grid::limits::MOST_ROWS;
 use rows::Cuts;
 use rows::Sides;
 use rows::busy_word;
@@ -56,7 +55,7 @@ fn place_row(
     z: usize,
     from: usize,
     samples: &[u16],
-    masks: &[u64; MOST_ROWS],
+    masks: &[u64],
     points: &mut [u32],
     edges: &mut [u32],
     marks: &mut [u8],
@@ -95,7 +94,7 @@ pub fn place_layer(
     z: usize,
     from: usize,
     samples: &[u16],
-    masks: &[u64; MOST_ROWS],
+    masks: &[u64],
     points: &mut [u32],
     edges: &mut [u32],
     marks: &mut [u8],

@@ -1,9 +1,9 @@
 -- Rows, samples and edges are few enough for the rooms and the numbers that hold them; and where rows and layers begin.
 use mathlib.Core.Path.{_≡_}
 use Prim.Native.Nat.{ℕ, _+_, _*_, _<_, _≤_}
-use native.Mathlib.Nat.{mul-le-mul, mul-add, mul-one, mul-zero, add-zero, zero-add}
+use native.Mathlib.Nat.{mul-add, mul-one, mul-zero, add-zero, zero-add}
 use native.Mathlib.Omega.{arith}
-use Rattle.grid.specs.Limits.{mostSide, mostRows, mostEdges}
+use Rattle.grid.specs.Limits.{mostEdges}
 use Rattle.grid.specs.Grid.{axes, sampleCount, edgeCount}
 use Rattle.grid.specs.Work.{SidesFit}
 use Rattle.grid.proofs.Sides.{samples-most}
@@ -12,15 +12,15 @@ use Rattle.rows.specs.declared.Sides.{Sides}
 use Rattle.rows.specs.Rows.{sizeOf, firstEdge}
 
 -- a row of a grid, and the rows behind it and over it
-module _ (ny nz : ℕ) (most-y : ny ≤ mostSide) (most-z : nz ≤ mostSide) (y z : ℕ) where
-  pub row-small : y < ny → z < nz → y + ny * z < mostRows
-  row-small hy hz = omega (arith, low-lt y ny z nz hy hz, mul-le-mul most-y most-z)
+module _ (ny nz y z : ℕ) where
+  pub row-there : y < ny → z < nz → y + ny * z < ny * nz
+  row-there hy hz = low-lt y ny z nz hy hz
 
-  pub behind-small : y + 1 < ny → z < nz → y + ny * z + 1 < mostRows
-  behind-small hy hz = omega (arith, low-lt (y + 1) ny z nz hy hz, mul-le-mul most-y most-z)
+  pub behind-there : y + 1 < ny → z < nz → y + ny * z + 1 < ny * nz
+  behind-there hy hz = omega (arith, low-lt (y + 1) ny z nz hy hz)
 
-  pub over-small : y < ny → z + 1 < nz → y + ny * z + ny < mostRows
-  over-small hy hz = omega (arith, low-lt y ny (z + 1) nz hy hz, mul-le-mul most-y most-z, mul-add ny z 1, mul-one ny)
+  pub over-there : y < ny → z + 1 < nz → y + ny * z + ny < ny * nz
+  over-there hy hz = omega (arith, low-lt y ny (z + 1) nz hy hz, mul-add ny z 1, mul-one ny)
 
 -- the edges of a grid
 pub edges-few : (sides : Sides) → SidesFit (sides .nx) (sides .ny) (sides .nz) → edgeCount axes (sizeOf sides) ≤ mostEdges

@@ -63,7 +63,7 @@ pub record Found (sides : Sides) (masks : List ℕ) (y z word x b : ℕ) : Type 
   pub uncut : (i : ℕ) → i < 3 * trailingZeros wordBits b → crossed axes (sizeOf sides) (maskAbove (sides .nx) masks) (firstEdge sides y z + 3 * x + i) ≡ false
   pub left : b / 2 ^ trailingZeros wordBits b / 2 ≡ halved word (x + trailingZeros wordBits b + 1)
 
-module _ (sides : Sides) (ready : Ready sides) (masks : List ℕ) (y z : ℕ) (hy : y < sides .ny) (hz : z < sides .nz) (row : Row)
+module _ (sides : Sides) (masks : List ℕ) (ready : Ready sides masks) (y z : ℕ) (hy : y < sides .ny) (hz : z < sides .nz) (row : Row)
     (from : RowFrom (sides .ny) (sides .nz) masks y z 0 row) (word : ℕ) (by : BusySamples (sides .full) row word) where
   abbrev cut : ℕ → Bool
   cut = crossed axes (sizeOf sides) (maskAbove (sides .nx) masks)

@@ -2,9 +2,9 @@
 use mathlib.Core.Path.{_≡_}
 use mathlib.Core.List.{List}
 use mathlib.Core.Bool.{Bool, true, false, cond, _&&_, xor}
-use Prim.Native.Nat.{ℕ, _+_, _*_, _/_, _%_, _^_}
+use Prim.Native.Nat.{ℕ, _+_, _*_, _/_, _%_, _^_, _≤_}
 use lib.Dec.{eqb, ltb}
-use lib.ListN.{getD}
+use lib.ListN.{length, getD}
 use Rattle.laws.specs.Bits.{bit, halved}
 use Rattle.laws.specs.Range.{one-if}
 use Rattle.grid.specs.Grid.{Size}
@@ -14,10 +14,11 @@ use Rattle.rows.specs.declared.Sides.{Sides}
 use Rattle.rows.specs.declared.Row.{Row}
 use Rattle.rows.specs.declared.Cuts.{Cuts}
 
--- the sides are within the limits, and the full mask is theirs
-pub record Ready (sides : Sides) : Type 0 where
+-- the sides are within the limits, the full mask is theirs, and each row has a mask
+pub record Ready (sides : Sides) (masks : List ℕ) : Type 0 where
   pub fit : SidesFit (sides .nx) (sides .ny) (sides .nz)
   pub full : AllSet (sides .nx) (sides .full)
+  pub rows : sides .ny * sides .nz ≤ length masks
 
 abbrev pub sizeOf : Sides → Size
 sizeOf sides = size (sides .nx) (sides .ny) (sides .nz)

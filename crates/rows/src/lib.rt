@@ -1,13 +1,10 @@
 // The rows of a grid as masks, and which of the edges that leave a sample are crossed.
 ghost use mathlib.Core.Path.{_≡_};
 ghost use mathlib.Core.Bool.{true, cond, _&&_};
-ghost use Prim.Native.Nat.{_+_, _*_, _<_};
-ghost use lib.ListN.{getD};
+ghost use Prim.Native.Nat.{_+_, _*_, _<_, _≤_};
+ghost use lib.ListN.{length, getD};
 ghost use Rattle.laws.specs.Bits.{wordBits};
-ghost use Rattle.grid.specs.Limits.{mostRows};
-ghost use Rattle.grid.specs.Work.{SidesFit};
 ghost use Rattle.rows.specs.Rows.{RowFrom, BusySamples, lowestDiffer, Parted, halvedBy};
-use grid::limits::MOST_ROWS;
 
 // The sides of a grid, and the mask of a row whose samples are all above.
 pub struct Sides {
@@ -33,16 +30,16 @@ pub struct Cuts {
 }
 
 // The mask of a neighbouring row, or the row's own where the grid ends.
-fn neighbour(there: bool, row: usize, here: u64, masks: &[u64; MOST_ROWS]) -> u64
-    requires { ⌜ (there ≡ true → row < mostRows) ⌝ }
+fn neighbour(there: bool, row: usize, here: u64, masks: &[u64]) -> u64
+    requires { ⌜ (there ≡ true → row < length (now masks)) ⌝ }
     ensures { λ r. ⌜ r ≡ cond there (getD (now (masks .entry)) row 0) here ⌝ }
 {
     if there { masks[row] } else { here }
 }
 
 // The masks for the row at y, z, before its first sample.
-pub fn row_at(sides: Sides, y: usize, z: usize, masks: &[u64; MOST_ROWS]) -> Row
-    requires { ⌜ SidesFit (sides .nx) (sides .ny) (sides .nz) ⌝ }
+pub fn row_at(sides: Sides, y: usize, z: usize, masks: &[u64]) -> Row
+    requires { ⌜ sides .ny * sides .nz ≤ length (now masks) ⌝ }
     requires { ⌜ y < sides .ny ⌝ }
     requires { ⌜ z < sides .nz ⌝ }
     ensures { λ r. ⌜ RowFrom (sides .ny) (sides .nz) (now (masks .entry)) y z 0 r ⌝ }

@@ -4,7 +4,7 @@ use mathlib.Core.List.{List}
 use Prim.Native.Nat.{ℕ, _+_, _*_, _-_, _<_, _≤_}
 use native.Mathlib.Nat.{mul-add, mul-le-mul-left}
 use native.Mathlib.Omega.{arith}
-use lib.ListN.{getD}
+use lib.ListN.{length, getD}
 use Rattle.laws.specs.Range.{sumTo}
 use Rattle.laws.specs.Bits.{halved}
 use Rattle.laws.proofs.Ranges.{sum-next, sum-quiet, sum-most}
@@ -30,20 +30,21 @@ abbrev pub mostInLayer : ℕ
 mostInLayer = mostInRow * (mostSide - 1)
 
 -- each layer of cubes has its two layers of samples among the masks
-pub layer-fits : (nx ny nz z : ℕ) (l : Layer) → SidesFit nx ny nz → AllSet nx (l .full) → z + 1 < nz → l .nx ≡ nx → l .ny ≡ ny → l .first ≡ ny * z → LayerFits l
-layer-fits nx ny nz z l s a h p q r =
+pub layer-fits : (nx ny nz z : ℕ) (l : Layer) (masks : List ℕ) → SidesFit nx ny nz → ny * nz ≤ length masks → AllSet nx (l .full) → z + 1 < nz
+    → l .nx ≡ nx → l .ny ≡ ny → l .first ≡ ny * z → LayerFits l masks
+layer-fits nx ny nz z l masks s all a h p q r =
     record {
       least-x = omega (arith, s .least-x);
       most-x = omega (arith, s .most-x);
       least-y = omega (arith, s .least-y);
       most-y = omega (arith, s .most-y);
-      rows = omega (arith, mul-add ny z 2, mul-le-mul-left {m = z + 2} {n = mostSide} ny (omega arith));
+      rows = omega (arith, mul-add ny z 2, mul-le-mul-left {m = z + 2} {n = nz} ny (omega arith));
       above = rw p a;
     }
 
 -- its mask of a row that is all above, for a row of cubes
-pub above-row : (l : Layer) → LayerFits l → AllSet (l .nx - 1 + 1) (l .full)
-above-row l f = let e : l .nx - 1 + 1 ≡ l .nx = omega (arith, f .least-x) in rw e (f .above)
+pub above-row : (l : Layer) (masks : List ℕ) → LayerFits l masks → AllSet (l .nx - 1 + 1) (l .full)
+above-row l masks f = let e : l .nx - 1 + 1 ≡ l .nx = omega (arith, f .least-x) in rw e (f .above)
 
 -- the masks that the walk holds
 pub masks-first : (m : RowMasks) → m ≡ masksFrom m 0

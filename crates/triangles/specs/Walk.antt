@@ -8,7 +8,7 @@ use lib.Seq.{sets}
 use Rattle.laws.specs.Bits.{bit}
 use Rattle.cube.specs.Cube.{cubeEdgeCount, cases}
 use Rattle.cube.specs.Answer.{count}
-use Rattle.grid.specs.Limits.{leastSide, mostSide, mostRows}
+use Rattle.grid.specs.Limits.{leastSide, mostSide}
 use Rattle.masks.specs.Masks.{AllSet}
 use Rattle.triangles.specs.declared.RowMasks.{RowMasks}
 use Rattle.triangles.specs.declared.Layer.{Layer}
@@ -21,12 +21,12 @@ pub record BusyCubes (row : RowMasks) (full busy : ℕ) : Type 0 where
 
 -- a layer's sides are within the limits, its rows of samples and those of the next layer are among the masks, and its mask of a row that is all
 -- above is one
-pub record LayerFits (l : Layer) : Type 0 where
+pub record LayerFits (l : Layer) (masks : List ℕ) : Type 0 where
   pub least-x : leastSide ≤ l .nx
   pub most-x : l .nx ≤ mostSide
   pub least-y : leastSide ≤ l .ny
   pub most-y : l .ny ≤ mostSide
-  pub rows : l .first + 2 * l .ny ≤ mostRows
+  pub rows : l .first + 2 * l .ny ≤ length masks
   pub above : AllSet (l .nx) (l .full)
 
 -- To write, every edge of every cube has to be in `work`, and the room has to hold the numbers from `at` on.

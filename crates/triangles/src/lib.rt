@@ -9,7 +9,7 @@ ghost use Rattle.laws.specs.Room.{laid};
 ghost use Rattle.laws.specs.Mesh.{flat};
 ghost use Rattle.cube.specs.Cube.{cubeEdges};
 ghost use Rattle.cube.specs.Promise.{Rows, Counts};
-ghost use Rattle.grid.specs.Limits.{mostSide, mostRows};
+ghost use Rattle.grid.specs.Limits.{mostSide};
 ghost use Rattle.grid.specs.Mesh.{edgeMesh, mesh};
 ghost use Rattle.grid.specs.Work.{size, SidesFit, Numbered};
 ghost use Rattle.masks.specs.Masks.{maskAbove, AllSet};
@@ -18,7 +18,6 @@ ghost use Rattle.triangles.specs.Walk.{BusyCubes, LayerFits, CubeRoom, R
 use cube::CASE_LENGTH;
 use cube::CASES;
 use cube::TABLE;
-use grid::limits::MOST_ROWS;
 
 // A case of a cube's four lower corners is below this.
 const FOUR_CORNERS: u64 = 16;
@@ -85,8 +84,8 @@ impl RowMasks {
 }
 
 // The masks around the row of cubes whose first corners are sample row r.
-fn masks_at(masks: &[u64; MOST_ROWS], ny: usize, r: usize) -> RowMasks
-    requires { ⌜ r + ny + 1 < mostRows ⌝ }
+fn masks_at(masks: &[u64], ny: usize, r: usize) -> RowMasks
+    requires { ⌜ r + ny + 1 < length (now masks) ⌝ }
     ensures { λ m. ⌜ m ≡ masksAt (now (masks .entry)) ny r ⌝ }
 {
     RowMasks {
@@ -119,9 +118,9 @@ fn count_row(counts: &[u8; CASES], row: RowMasks, cubes: usize, full: u64) -> u3
 }
 
 // How many triangles a layer of cubes has.
-fn count_layer(counts: &[u8; CASES], masks: &[u64; MOST_ROWS], layer: Layer) -> u32
+fn count_layer(counts: &[u8; CASES], masks: &[u64], layer: Layer) -> u32
     requires { ⌜ Counts (now counts) ⌝ }
-    requires { ⌜ LayerFits layer ⌝ }
+    requires { ⌜ LayerFits layer (now masks) ⌝ }
     ensures { λ r. ⌜ r ≡ layerCount (layer .nx) (layer .ny) (layer .ny - 1) (now (masks .entry)) (layer .first) ⌝ }
 {
     let last = layer.ny - 1;
@@ -134,8 +133,9 @@ fn count_layer(counts: &[u8; CASES], masks: &[u64; MOST_ROWS], layer: Layer) -> 
 }
 
 // How many triangles the grid has.
-pub fn count(nx: usize, ny: usize, nz: usize, masks: &[u64; MOST_ROWS]) -> u32
+pub fn count(nx: usize, ny: usize, nz: usize, masks: &[u64]) -> u32
     requires { ⌜ SidesFit nx ny nz ⌝ }
+    requires { ⌜ ny * nz ≤ length (now masks) ⌝ }
     ensures { λ r. ⌜ r ≡ length (edgeMesh (size nx ny nz) (maskAbove nx (now (masks .entry)))) ⌝ }
 {
     let counts = cube::counts();
@@ -233,7 +233,7 @@ fn write_layer(
     rows: &[u8; TABLE],
     counts: &[u8; CASES],
     offsets: &[usize; 12],
-    masks: &[u64; MOST_ROWS],
+    masks: &[u64],
     work: &[u32],
     triangles: &mut [u32],
     layer: Layer,
@@ -241,7 +241,7 @@ fn write_layer(
 ) -> usize
     requires { ⌜ Rows (now rows) ⌝ }
     requires { ⌜ Counts (now counts) ⌝ }
-    requires { ⌜ LayerFits layer ⌝ }
+    requires { ⌜ LayerFits layer (now masks) ⌝ }
     requires { ⌜ LayerRoom (now offsets) (now work) (now triangles) (layer .nx) (layer .ny) (now masks) (layer .first) at ⌝ }
     ensures { λ r.
         let numbers = layerNumbers (now (offsets .entry)) (now (work .entry)) (layer .nx) (layer .ny) (layer .ny - 1) (now (masks .entry)) (layer .first) in
@@ -271,15 +271,9 @@ fn write_layer(
 }
 
 // Writes the triangles to the front of their room; `work` has the number of the point at each crossed edge.
-pub fn write(
-    nx: usize,
-    ny: usize,
-    nz: usize,
-    masks: &[u64; MOST_ROWS],
-    work: &[u32],
-    triangles: &mut [u32],
-)
+pub fn write(nx: usize, ny: usize, nz: usize, masks: &[u64], work: &[u32], triangles: &mut [u32])
     requires { ⌜ SidesFit nx ny nz ⌝ }
+    requires { ⌜ ny * nz ≤ length (now masks) ⌝ }
     requires { ⌜ Numbered (size nx ny nz) (maskAbove nx (now masks)) (now work) ⌝ }
     requires { ⌜ 3 * length (edgeMesh (size nx ny nz) (maskAbove nx (now masks))) ≤ length (now triangles) ⌝ }
     ensures { λ _. ⌜ now (triangles .exit) ≡ laid (flat (mesh (size nx ny nz) (maskAbove nx (now (masks .entry))))) (now (triangles .entry)) ⌝ }

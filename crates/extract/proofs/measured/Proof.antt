@@ -1,11 +1,11 @@
 -- `extract::measured` meets its contract: the three ways out. Assumes nothing.
 use mathlib.Core.Path.{_≡_, ap, sym, _∙_}
 use native.Mathlib.Omega.{arith}
-use Prim.Native.Nat.{_/_, min}
+use Prim.Native.Nat.{_*_, _/_, _≤_, min}
 use mathlib.Core.Bool.{false}
 use lib.Dec.{ltb}
 use lib.ListN.{length, replicate, length-replicate}
-use Rattle.grid.specs.Limits.{mostPoints}
+use Rattle.grid.specs.Limits.{mostRows, mostPoints}
 use Rattle.grid.proofs.Sides.{rows-most}
 use Rattle.extract.specs.Extraction.{Rooms}
 use Rattle.extract.specs.Promise.{rooms}
@@ -52,6 +52,15 @@ room-is c =
 work-kept : (c : tie.After-number) → length (c .number .last .1 .1 .1 .1 .0) ≡ length (lent (begun (masked c)) .work)
 work-kept c = c .number .ensures .1 .whole ∙ sym (begun (masked c) .pre .1 .1)
 
+-- each row has its mask
+masks-long : (c : tie.After-fill) → length (c .fill .last .1 .1 .1 .1 .0) ≡ mostRows
+masks-long c = c .fill .kept .1 .1 .1 .1 .0
+
+rows-masked : (c : tie.After-fill) → begun c .args .ny * begun c .args .nz ≤ length (c .fill .last .1 .1 .1 .1 .0)
+rows-masked c =
+    let s = begun c in
+    omega (arith, masks-long c, rows-most (s .args .nx) (s .args .ny) (s .args .nz) (s .pre .0))
+
 -- points and triangles within their rooms
 points-fit : (c : tie.After-exceeds2) → ltb (min mostPoints (counted c .before .least2 .result)) (numbered (counted c) .number .result) ≡ false
 points-fit c = sym (counted c .exceeds .ensures) ∙ c .before .before .before .if1 .left
@@ -73,8 +82,13 @@ fill-requires c κs =
       omega (arith, s .pre .0 .least-x),
     )
 
+slice-aggregate-number : tie.Need-slice-aggregate-number
+slice-aggregate-number c = sym (masks-long (c .before .before))
+
 number-requires : tie.Need-number-requires
-number-requires c κs = search needs
+number-requires c κs =
+    let f = c .before .before .before in
+    (begun f .pre .0, (rows-masked f, begun f .pre .1 .1))
 
 least-requires : tie.Need-least-requires
 least-requires c κs = search needs
@@ -110,8 +124,13 @@ returns c =
     (sym (tests .exceeds .ensures) ∙ later .before .before .if1 .taken)
     (later .refused-later .ensures .1 ∙ ap (λ k. replicate k 0) (work-kept n)))
 
+slice-aggregate-count : tie.Need-slice-aggregate-count
+slice-aggregate-count c = sym (masks-long (masked (numbered (c .before .before))))
+
 count-requires : tie.Need-count-requires
-count-requires c κs = search needs
+count-requires c κs =
+    let f = masked (numbered (c .before .before)) in
+    (begun f .pre .0, rows-masked f)
 
 exceeds-requires-2 : tie.Need-exceeds-requires-2
 exceeds-requires-2 c κs = search needs
@@ -145,6 +164,9 @@ returns-2 c =
     (sym (made .exceeds2 .ensures) ∙ later .before .before .if2 .taken)
     (later .refused-later2 .ensures .1 ∙ ap (λ k. replicate k 0) (work-kept n)))
 
+slice-aggregate-place : tie.Need-slice-aggregate-place
+slice-aggregate-place c = sym (masks-long (masked (numbered (counted (c .before .before)))))
+
 place-requires : tie.Need-place-requires
 place-requires c κs =
     let made = placing c .before in
@@ -156,7 +178,10 @@ place-requires c κs =
     let hold = rooms-hold (a .nx) (a .ny) (a .nz) (a .grey) (a .samples .now) (f .fill .last .1 .1 .1 .1 .0) (s .pre .0) (f .fill .ensures)
     (n .number .result) (tests .before .least2 .result) (length (a .points .now)) (length (a .edges .now)) (length (a .marks .now))
     (n .number .ensures .0) (room-is tests) (points-fit made) in
-    (s .pre .0, (s .pre .1 .0, (f .fill .ensures, (hold .0, (hold .1, hold .2)))))
+    (s .pre .0, (rows-masked f, (s .pre .1 .0, (f .fill .ensures, (hold .0, (hold .1, hold .2))))))
+
+slice-aggregate-write : tie.Need-slice-aggregate-write
+slice-aggregate-write c = sym (masks-long (masked (numbered (counted (placing (c .before .before .before .before .before .before .before .before) .before)))))
 
 write-requires : tie.Need-write-requires
 write-requires c κs =
@@ -168,9 +193,12 @@ write-requires c κs =
     let a = s .args in (
       s .pre .0,
       (
-        n .number .ensures .1,
-        triangles-hold (a .nx) (a .ny) (a .nz) (a .grey) (a .samples .now) (f .fill .last .1 .1 .1 .1 .0) (s .pre .0) (f .fill .ensures)
-            (made .before .count .result) (length (a .triangles .now)) (made .before .count .ensures) (sym (made .exceeds2 .ensures) ∙ else .if2 .left),
+        rows-masked f,
+        (
+          n .number .ensures .1,
+          triangles-hold (a .nx) (a .ny) (a .nz) (a .grey) (a .samples .now) (f .fill .last .1 .1 .1 .1 .0) (s .pre .0) (f .fill .ensures)
+              (made .before .count .result) (length (a .triangles .now)) (made .before .count .ensures) (sym (made .exceeds2 .ensures) ∙ else .if2 .left),
+        ),
       ),
     )
 
@@ -229,6 +257,7 @@ measured-spec =
     mul-fill
     slice-aggregate-fill
     fill-requires
+    slice-aggregate-number
     number-requires
     least-requires
     least-requires-2
@@ -236,12 +265,15 @@ measured-spec =
     refused-later-requires
     same-length
     returns
+    slice-aggregate-count
     count-requires
     exceeds-requires-2
     refused-later-requires-2
     same-length-2
     returns-2
+    slice-aggregate-place
     place-requires
+    slice-aggregate-write
     write-requires
     clear-requires
     same-length-3

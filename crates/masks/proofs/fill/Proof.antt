@@ -1,58 +1,96 @@
--- `masks::fill` meets its contract. Each row passed has its mask. Assumes nothing.
-use mathlib.Core.Path.{_≡_, refl, ap, _∙_}
-use Prim.Native.Nat.{ℕ, _*_, _-_, _≤_, _<_}
-use native.Mathlib.Nat.{mul-zero, mul-one, mul-add}
+-- `masks::fill` meets its contract. The rows of the batches passed have their masks. Assumes nothing.
+use mathlib.Core.Path.{_≡_, refl, sym, _∙_}
+use Prim.Native.Nat.{ℕ, _+_, _*_, _-_, _<_, _≤_}
+use native.Mathlib.Nat.{mul-zero, mul-add, mul-le-mul-left}
 use native.Mathlib.Omega.{arith}
-use lib.ListN.{length, getD, length-set}
-use Rattle.masks.specs.Masks.{rowMask}
-use Rattle.masks.proofs.Rows.{rows-masked, row-end, rows-next}
+use borrow.Author.Needs.{needs}
+use lib.ListN.{length}
+use Rattle.laws.proofs.Rooms.{zeros-at}
+use Rattle.masks.specs.Masks.{Masked}
+use Rattle.masks.specs.Flags.{flagBytes, mostFlagged, AreFlags}
+use Rattle.masks.proofs.Rows.{batch-next, some-row, batch-fits}
 use Rattle.masks.proofs.fill.Statement.{statement}
 use Rattle.masks.proofs.fill.Tie as tie
 
 abbrev Inv-loop : tie.InvT-loop
-Inv-loop samples nx rows grey masks₀ r₀ start₀ masks r start =
-    (length masks ≡ length masks₀) × (r ≤ rows) × (start ≡ nx * r) × ((q : ℕ) → q < r → getD masks q 0 ≡ rowMask grey samples (nx * q) nx)
+Inv-loop samples nx rows grey masks₀ flags₀ most r₀ masks flags r = (length masks ≡ length masks₀) × (length flags ≡ flagBytes) × (r ≤ rows) × AreFlags flags × Masked nx r grey samples masks
 
 abbrev μ-loop : tie.MeasureT-loop
-μ-loop samples nx rows grey masks₀ r₀ start₀ masks r start = rows - r
+μ-loop samples nx rows grey masks₀ flags₀ most r₀ masks flags r = rows - r
+
+div-most : tie.Need-div-most Inv-loop μ-loop
+div-most c = search needs
 
 loop-holds : tie.Need-loop-holds Inv-loop μ-loop
-loop-holds c = (refl, omega arith, omega (arith, mul-zero (c .before .before .args .nx)), λ q l. absurd (omega arith))
+loop-holds c =
+    let a = c .before .before .args in
+    (refl, refl, omega arith, λ i. omega (arith, zeros-at flagBytes i), λ s l. absurd (omega (arith, mul-zero (a .nx))))
 
-row-mask-requires : tie.Need-row-mask-requires Inv-loop μ-loop
-row-mask-requires c κs =
-    let a = c .before .before .before .before .args in
-    let l = c .before .loop in
-    (omega arith, omega (arith, row-end (a .nx) (l .r) (a .rows) (omega arith)))
+sub-least : tie.Need-sub-least Inv-loop μ-loop
+sub-least c = search needs
 
-mul-masks : tie.Need-mul-masks Inv-loop μ-loop
-mul-masks c = omega arith
+least-requires : tie.Need-least-requires Inv-loop μ-loop
+least-requires c κs = search needs
 
-slice-write-masks : tie.Need-slice-write-masks Inv-loop μ-loop
-slice-write-masks c = omega arith
+-- a batch has a row, its samples can be flagged, and its rows are among those left
+record Batch (nx rows r many : ℕ) : Type 0 where
+  some : 0 < many
+  fits : nx * many ≤ mostFlagged
+  left : r + many ≤ rows
+  within : nx * r + nx * many ≤ nx * rows
 
-add-r : tie.Need-add-r Inv-loop μ-loop
-add-r c = omega arith
-
-add-start : tie.Need-add-start Inv-loop μ-loop
-add-start c =
+batch : (c : tie.After-least Inv-loop μ-loop)
+    → Batch (c .before .before .before .before .before .args .nx) (c .before .before .before .before .before .args .rows) (c .before .before .loop .r) (c .least .result)
+batch c =
     let a = c .before .before .before .before .before .args in
     let l = c .before .before .loop in
-    omega (arith, row-end (a .nx) (l .r) (a .rows) (omega arith))
+    let least = c .least .ensures in
+    let left : l .r + c .least .result ≤ a .rows = omega (arith, least) in
+    record {
+      some = omega (arith, least, some-row (a .nx) (omega arith) mostFlagged (omega arith));
+      fits = batch-fits (a .nx) (omega arith) mostFlagged (c .least .result) (omega (arith, least));
+      left = left;
+      within = omega (arith, mul-add (a .nx) (l .r) (c .least .result), mul-le-mul-left (a .nx) left);
+    }
+
+mul-flag-samples : tie.Need-mul-flag-samples Inv-loop μ-loop
+mul-flag-samples c = omega (arith, batch c)
+
+mul-flag-samples-2 : tie.Need-mul-flag-samples-2 Inv-loop μ-loop
+mul-flag-samples-2 c = omega (arith, batch c)
+
+slice-aggregate-flag-samples : tie.Need-slice-aggregate-flag-samples Inv-loop μ-loop
+slice-aggregate-flag-samples c = sym (c .before .before .before .loop .inv .1)
+
+flag-samples-requires : tie.Need-flag-samples-requires Inv-loop μ-loop
+flag-samples-requires c κs =
+    let l = c .before .before .before .loop in
+    (omega (arith, batch (c .before)), (omega (arith, batch (c .before), l .inv .1), l .inv .3))
+
+mask-rows-requires : tie.Need-mask-rows-requires Inv-loop μ-loop
+mask-rows-requires c κs =
+    let batch = batch (c .before .before .before .before .before) in
+    let l = c .before .before .before .before .before .before .before .loop in
+    ((omega arith, omega arith, batch .fits), (omega (arith, batch .left, l .inv .0), c .before .before .before .flag-samples .ensures .0))
+
+add-r : tie.Need-add-r Inv-loop μ-loop
+add-r c = omega (arith, batch (c .before .before .before .before .before .before .before .before) .left)
 
 loop-less : tie.Need-loop-less Inv-loop μ-loop
-loop-less c = omega arith
+loop-less c = omega (arith, batch (c .before .before .before .before .before .before .before .before) .some)
 
 loop-again : tie.Need-loop-again Inv-loop μ-loop
 loop-again c =
-    let a = c .before .before .before .before .before .args in
-    let l = c .before .before .loop in (
-      simp length-set (l .inv .0),
-      omega arith,
-      omega (arith, mul-add (a .nx) (l .r) 1, mul-one (a .nx)),
-      rows-next (λ q. rowMask (a .grey) (a .samples .now) (a .nx * q) (a .nx)) (l .masks) (l .r) (c .row-mask .result) (omega arith)
-          (c .row-mask .ensures ∙ ap (λ s. rowMask (a .grey) (a .samples .now) s (a .nx)) (l .inv .2))
-          (l .inv .3),
+    let a = c .before .before .before .before .before .before .before .before .before .before .before .before .before .args in
+    let l = c .before .before .before .before .before .before .before .before .before .before .loop in
+    let batch = batch (c .before .before .before .before .before .before .before .before) in
+    let flagged = c .before .before .before .before .before .before .flag-samples in
+    let masked = c .before .before .mask-rows in (
+      masked .kept .1 .1 .1 .1 .0 ∙ l .inv .0,
+      flagged .kept .1 .1 .1 .1 .0 ∙ l .inv .1,
+      batch .left,
+      flagged .ensures .0,
+      batch-next (a .nx) (omega arith) (a .grey) (a .samples .now) _ (l .masks) _ (l .r) _ (flagged .ensures .1) (masked .ensures) (l .inv .4),
     )
 
 same-length : tie.Need-same-length Inv-loop μ-loop
@@ -60,11 +98,27 @@ same-length c = c .before .loop .inv .0
 
 returns : tie.Need-returns Inv-loop μ-loop
 returns c =
-    let a = c .before .before .before .before .args in
     let l = c .before .loop in
-    rows-masked (a .nx) (a .rows) (a .grey) (a .samples .now) (l .masks) (omega arith) (λ q h. l .inv .3 q (omega arith))
+    let all : l .r ≡ c .before .before .before .before .args .rows = omega arith in
+    rw (← all) (l .inv .4)
 
 pub fill-spec : {M : Type 1} → statement M
 fill-spec =
     tie.close
-    (tie.spec Inv-loop μ-loop loop-holds row-mask-requires mul-masks slice-write-masks add-r add-start loop-less loop-again same-length returns)
+    (tie.spec
+    Inv-loop
+    μ-loop
+    div-most
+    loop-holds
+    sub-least
+    least-requires
+    mul-flag-samples
+    mul-flag-samples-2
+    slice-aggregate-flag-samples
+    flag-samples-requires
+    mask-rows-requires
+    add-r
+    loop-less
+    loop-again
+    same-length
+    returns)

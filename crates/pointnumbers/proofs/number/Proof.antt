@@ -20,24 +20,25 @@ abbrev μ-loop : tie.MeasureT-loop
 -- the sides with their full mask, as the layers are given them
 abbrev sides : tie.After-full-mask Inv-loop μ-loop → Sides
 sides c =
-    let a = c .before .before .args in
+    let a = c .before .before .before .args in
     record { nx = a .nx; ny = a .ny; nz = a .nz; full = c .full-mask .result }
 
 full-mask-requires : tie.Need-full-mask-requires Inv-loop μ-loop
-full-mask-requires c κs = omega (arith, c .before .pre .0 .most-x)
+full-mask-requires c κs = omega (arith, c .before .before .pre .0 .most-x)
 
 loop-holds : tie.Need-loop-holds Inv-loop μ-loop
 loop-holds c =
-    let s = c .before .before in
-    (omega arith, rw (first-row (sides c)) (none-numbered (sides c) (now (s .args .masks)) (now (s .args .work)) (s .pre .1)))
+    let s = c .before .before .before in
+    (omega arith, rw (first-row (sides c)) (none-numbered (sides c) (now (s .args .masks)) (now (s .args .work)) (s .pre .1 .1)))
 
 number-layer-requires : tie.Need-number-layer-requires Inv-loop μ-loop
 number-layer-requires c κs =
     let l = c .before .before in
-    (record { fit = c .before .before .before .before .before .pre .0; full = c .before .before .before .full-mask .ensures }, (omega arith, l .loop .inv .1))
+    let s = c .before .before .before .before .before .before in
+    (record { fit = s .pre .0; full = c .before .before .before .full-mask .ensures; rows = s .pre .1 .0 }, (omega arith, l .loop .inv .1))
 
 add-z : tie.Need-add-z Inv-loop μ-loop
-add-z c = omega (arith, c .before .before .before .before .before .before .before .before .pre .0 .most-z)
+add-z c = omega (arith, c .before .before .before .before .before .before .before .before .before .pre .0 .most-z)
 
 loop-less : tie.Need-loop-less Inv-loop μ-loop
 loop-less c = omega arith
@@ -48,13 +49,13 @@ loop-again c = (omega arith, c .before .before .number-layer .ensures)
 same-length : tie.Need-same-length Inv-loop μ-loop
 same-length c =
     let l = c .before in
-    l .loop .inv .1 .whole ∙ sym (l .before .before .before .pre .1)
+    l .loop .inv .1 .whole ∙ sym (l .before .before .before .before .pre .1 .1)
 
 returns : tie.Need-returns Inv-loop μ-loop
 returns c =
     let l = c .before in
     let s = sides (l .before) in
-    let masks = now (l .before .before .before .args .masks) in
+    let masks = now (l .before .before .before .before .args .masks) in
     let last : l .loop .z ≡ s .nz = omega (arith, l .loop .inv .0) in
     let so = subst (λ e. NumberedTo s masks e (l .loop .n) (l .loop .work)) (ap (firstEdge s 0) last ∙ past-last s) (l .loop .inv .1) in
     (all-counted s masks (l .loop .n) (l .loop .work) so, all-numbered s masks (l .loop .n) (l .loop .work) so)

@@ -21,7 +21,7 @@ abbrev μ-loop : tie.MeasureT-loop
 μ-loop nx ny nz grey samples masks points₀ edges₀ marks₀ sides n₀ z₀ points edges marks n z = nz - z
 
 abbrev start : tie.After-full-mask Inv-loop μ-loop → tie.Start Inv-loop μ-loop
-start c = c .before .before .before .before .before
+start c = c .before .before .before .before .before .before
 
 -- the sides with their full mask, as the layers are given them, and the rooms as they come, at the loop's head, and past a layer
 abbrev sides : tie.After-full-mask Inv-loop μ-loop → Sides
@@ -45,16 +45,16 @@ past-layer c =
 given : (c : tie.After-full-mask Inv-loop μ-loop) → Given (sides c) (start c .args .grey) (now (start c .args .samples)) (now (start c .args .masks))
 given c =
     let pre = start c .pre in
-    record { ready = record { fit = pre .0; full = c .full-mask .ensures }; whole = pre .1 .0; masked = pre .1 .1 .0 }
+    record { ready = record { fit = pre .0; full = c .full-mask .ensures; rows = pre .1 .0 }; whole = pre .1 .1 .0; masked = pre .1 .1 .1 .0 }
 
 room : (c : tie.After-full-mask Inv-loop μ-loop) → RoomsFor (countAll (sides c) (now (start c .args .masks))) (first-rooms c)
 room c =
     let a = start c .args in
-    let pre = start c .pre .1 .1 .1 in
+    let pre = start c .pre .1 .1 .1 .1 in
     room-for-all (sides c) (a .grey) (now (a .samples)) (now (a .masks)) (first-rooms c) record { points = pre .0; edges = pre .1 .0; marks = pre .1 .1 }
 
 full-mask-requires : tie.Need-full-mask-requires Inv-loop μ-loop
-full-mask-requires c κs = omega (arith, c .before .before .before .before .pre .0 .most-x)
+full-mask-requires c κs = omega (arith, c .before .before .before .before .before .pre .0 .most-x)
 
 loop-holds : tie.Need-loop-holds Inv-loop μ-loop
 loop-holds c =
@@ -117,7 +117,7 @@ returns c =
     let f = l .before in
     let s = sides f in
     let a = start f .args in
-    let pre = start f .pre .1 .1 .1 in
+    let pre = start f .pre .1 .1 .1 .1 in
     let samples = now (a .samples) in
     let masks = now (a .masks) in
     let after = loop-rooms l in

@@ -7,8 +7,8 @@ use Rattle.rows.proofs.neighbour.Tie as tie
 mul-result : tie.Need-mul-result
 mul-result c = omega (arith, c .before .pre (c .if1 .taken))
 
-element-copy-out-result : tie.Need-element-copy-out-result
-element-copy-out-result c = c .before .pre (c .if1 .taken)
+shared-slice-read-result : tie.Need-shared-slice-read-result
+shared-slice-read-result c = c .before .before .pre (c .before .if1 .taken)
 
 returns : tie.Need-returns
 returns c = rw (c .before .if1 .taken)
@@ -17,4 +17,4 @@ returns-2 : tie.Need-returns-2
 returns-2 c = search needs
 
 pub neighbour-spec : {M : Type 1} → statement M
-neighbour-spec = tie.close (tie.spec mul-result element-copy-out-result returns returns-2)
+neighbour-spec = tie.close (tie.spec mul-result shared-slice-read-result returns returns-2)

@@ -33,16 +33,16 @@ loop-holds c = (omega arith, omega arith, grid-count-first _ _ _)
 
 -- in a turn: the layer's rows among the masks, and what the layer adds, in the words of the definitions
 abbrev begun : tie.In-loop Inv-loop μ-loop → tie.Start Inv-loop μ-loop
-begun c = c .before .before .before .before
+begun c = c .before .before .before .before .before
 
 abbrev layerHere : tie.In-loop Inv-loop μ-loop → Layer
 layerHere c = record { nx = begun c .args .nx; ny = begun c .args .ny; full = c .before .before .full-mask .result; first = c .before .loop .first }
 
-layer-here : (c : tie.In-loop Inv-loop μ-loop) → LayerFits (layerHere c)
+layer-here : (c : tie.In-loop Inv-loop μ-loop) → LayerFits (layerHere c) (begun c .args .masks .now)
 layer-here c =
     let a = begun c .args in
     let l = c .before .loop in
-    layer-fits (a .nx) (a .ny) (a .nz) (l .counter) (layerHere c) (begun c .pre) (c .before .before .full-mask .ensures) (omega arith) refl refl (l .inv .1)
+    layer-fits (a .nx) (a .ny) (a .nz) (l .counter) (layerHere c) (a .masks .now) (begun c .pre .0) (begun c .pre .1) (c .before .before .full-mask .ensures) (omega arith) refl refl (l .inv .1)
 
 count-layer-requires : tie.Need-count-layer-requires Inv-loop μ-loop
 count-layer-requires c κs =
@@ -63,8 +63,8 @@ add-sum c =
       arith,
       l .inv .2,
       layer-is c,
-      layer-count-most (a .nx) (a .ny) (a .masks .now) (a .ny * l .counter) (a .ny - 1) (start .pre .most-x),
-      grid-count-most (a .nx) (a .ny) (a .masks .now) (l .counter) (start .pre .most-x) (start .pre .most-y),
+      layer-count-most (a .nx) (a .ny) (a .masks .now) (a .ny * l .counter) (a .ny - 1) (start .pre .0 .most-x),
+      grid-count-most (a .nx) (a .ny) (a .masks .now) (l .counter) (start .pre .0 .most-x) (start .pre .0 .most-y),
     )
 
 add-first : tie.Need-add-first Inv-loop μ-loop
@@ -87,7 +87,7 @@ loop-again c =
 
 returns : tie.Need-returns Inv-loop μ-loop
 returns c =
-    let a = c .before .before .before .before .args in
+    let a = c .before .before .before .before .before .args in
     let e : c .before .loop .counter ≡ a .nz - 1 = omega arith in
     c .before .loop .inv .2 ∙ ap (λ n. gridCount (a .nx) (a .ny) n (a .masks .now)) e ∙ mesh-count (a .nx) (a .ny) (a .masks .now) (a .nz)
 

@@ -14,14 +14,14 @@ abbrev μ-loop : tie.MeasureT-loop
 μ-loop counts masks layer last sum₀ y₀ sum y = layer .ny - 1 - y
 
 sub-last : tie.Need-sub-last Inv-loop μ-loop
-sub-last c = omega (arith, c .before .pre .1)
+sub-last c = omega (arith, c .before .before .pre .1)
 
 loop-holds : tie.Need-loop-holds Inv-loop μ-loop
 loop-holds c = (omega arith, layer-count-first _ _ _ _)
 
 -- from a turn back to the function's entry
 abbrev begun : tie.In-loop Inv-loop μ-loop → tie.Start Inv-loop μ-loop
-begun c = c .before .before .before
+begun c = c .before .before .before .before
 
 add-masks-at : tie.Need-add-masks-at Inv-loop μ-loop
 add-masks-at c = omega (arith, begun (c .before) .pre .1)
@@ -35,7 +35,7 @@ sub-count-row c = omega (arith, begun (c .before .before .before) .pre .1)
 count-row-requires : tie.Need-count-row-requires Inv-loop μ-loop
 count-row-requires c κs =
     let pre = begun (c .before .before .before) .pre in
-    (pre .0, (omega (arith, pre .1), above-row _ (pre .1)))
+    (pre .0, (omega (arith, pre .1), above-row _ _ (pre .1)))
 
 -- what the row added, in the words of the definitions
 row-is : (c : tie.After-count-row Inv-loop μ-loop)
@@ -74,7 +74,7 @@ loop-again c =
 
 returns : tie.Need-returns Inv-loop μ-loop
 returns c =
-    let layer = c .before .before .before .args .layer in
+    let layer = c .before .before .before .before .args .layer in
     let e : c .before .loop .y ≡ layer .ny - 1 = omega arith in
     rw (← e) (c .before .loop .inv .1)
 

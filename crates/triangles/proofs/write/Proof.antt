@@ -37,26 +37,26 @@ sub-last c = omega arith
 
 loop-holds : tie.Need-loop-holds Inv-loop μ-loop
 loop-holds c =
-    let start = c .before .before .before .before .before .before in
+    let start = c .before .before .before .before .before .before .before in
     let a = start .args in (
       omega arith,
       omega arith,
       written-nothing (a .triangles .now) 0 _
-          (grid-first (a .nx) (a .ny) (a .nz) (a .masks .now) (a .work .now) (c .before .edge-offsets .result) (start .pre .1 .0) (c .before .edge-offsets .ensures)),
+          (grid-first (a .nx) (a .ny) (a .nz) (a .masks .now) (a .work .now) (c .before .edge-offsets .result) (start .pre .1 .1 .0) (c .before .edge-offsets .ensures)),
     )
 
 -- in a turn: the layer's rows among the masks, and the room for its numbers
 abbrev begun : tie.In-loop Inv-loop μ-loop → tie.Start Inv-loop μ-loop
-begun c = c .before .before .before .before .before .before .before .before
+begun c = c .before .before .before .before .before .before .before .before .before
 
 abbrev layerHere : tie.In-loop Inv-loop μ-loop → Layer
 layerHere c = record { nx = begun c .args .nx; ny = begun c .args .ny; full = c .before .before .full-mask .result; first = c .before .loop .first }
 
-layer-here : (c : tie.In-loop Inv-loop μ-loop) → LayerFits (layerHere c)
+layer-here : (c : tie.In-loop Inv-loop μ-loop) → LayerFits (layerHere c) (begun c .args .masks .now)
 layer-here c =
     let a = begun c .args in
     let l = c .before .loop in
-    layer-fits (a .nx) (a .ny) (a .nz) (l .counter) (layerHere c) (begun c .pre .0) (c .before .before .full-mask .ensures) (omega arith) refl refl (l .inv .1)
+    layer-fits (a .nx) (a .ny) (a .nz) (l .counter) (layerHere c) (a .masks .now) (begun c .pre .0) (begun c .pre .1 .0) (c .before .before .full-mask .ensures) (omega arith) refl refl (l .inv .1)
 
 room-here : (c : tie.In-loop Inv-loop μ-loop)
     → let a = begun c .args in
@@ -66,12 +66,12 @@ room-here c =
     let a = begun c .args in
     let l = c .before .loop in
     let offsets = c .before .before .before .edge-offsets in
-    layer-room (a .nx) (a .ny) (a .nz) (a .masks .now) (a .work .now) (offsets .result) (begun c .pre .1 .0) (offsets .ensures) (a .triangles .now) (l .triangles) (l .to)
+    layer-room (a .nx) (a .ny) (a .nz) (a .masks .now) (a .work .now) (offsets .result) (begun c .pre .1 .1 .0) (offsets .ensures) (a .triangles .now) (l .triangles) (l .to)
     (l .counter)
     (l .first)
     (l .inv .2)
     (l .inv .1)
-    (begun c .pre .1 .1)
+    (begun c .pre .1 .1 .1)
     (omega arith)
 
 write-layer-requires : tie.Need-write-layer-requires Inv-loop μ-loop
@@ -99,7 +99,7 @@ loop-again c =
     let offsets = here .before .before .before .edge-offsets in (
       omega arith,
       omega (arith, l .inv .1, mul-add (a .ny) (l .counter) 1),
-      grid-next (a .nx) (a .ny) (a .nz) (a .masks .now) (a .work .now) (offsets .result) (begun here .pre .1 .0) (offsets .ensures) (a .triangles .now) (l .triangles)
+      grid-next (a .nx) (a .ny) (a .nz) (a .masks .now) (a .work .now) (offsets .result) (begun here .pre .1 .1 .0) (offsets .ensures) (a .triangles .now) (l .triangles)
           (l .to)
           (l .counter)
           (l .first)
@@ -115,14 +115,14 @@ same-length c = written-length _ _ _ _ _ (c .before .loop .inv .2)
 
 returns : tie.Need-returns Inv-loop μ-loop
 returns c =
-    let start = c .before .before .before .before .before .before .before .before in
+    let start = c .before .before .before .before .before .before .before .before .before in
     let a = start .args in
     let l = c .before .loop in
     let offsets = c .before .before .before .edge-offsets in
     let e : l .counter ≡ a .nz - 1 = omega arith in
-    grid-laid (a .nx) (a .ny) (a .nz) (a .masks .now) (a .work .now) (offsets .result) (start .pre .1 .0) (offsets .ensures) (a .triangles .now) (l .triangles) (l .to)
+    grid-laid (a .nx) (a .ny) (a .nz) (a .masks .now) (a .work .now) (offsets .result) (start .pre .1 .1 .0) (offsets .ensures) (a .triangles .now) (l .triangles) (l .to)
     (rw e at (l .inv .2))
-    (start .pre .1 .1)
+    (start .pre .1 .1 .1)
 
 pub write-spec : {M : Type 1} → statement M
 write-spec =

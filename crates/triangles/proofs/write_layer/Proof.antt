@@ -2,9 +2,8 @@
 -- written. Assumes nothing.
 use mathlib.Core.Path.{_≡_, ap}
 use Prim.Native.Nat.{_+_, _*_, _-_, _≤_}
-use native.Mathlib.Nat.{mul-add, mul-le-mul-left}
+use native.Mathlib.Nat.{mul-add}
 use native.Mathlib.Omega.{arith}
-use Rattle.grid.specs.Limits.{mostRows}
 use Rattle.triangles.specs.Row.{layerNumbers}
 use Rattle.triangles.specs.Walk.{Written}
 use Rattle.triangles.proofs.Steps.{above-row}
@@ -23,21 +22,21 @@ abbrev μ-loop : tie.MeasureT-loop
     layer .ny - 1 - y
 
 sub-last : tie.Need-sub-last Inv-loop μ-loop
-sub-last c = omega (arith, c .before .before .before .pre .1 .1 .0)
+sub-last c = omega (arith, c .before .before .before .before .pre .1 .1 .0)
 
 mul-step : tie.Need-mul-step Inv-loop μ-loop
-mul-step c = omega (arith, c .before .before .before .before .pre .1 .1 .0)
+mul-step c = omega (arith, c .before .before .before .before .before .pre .1 .1 .0)
 
 mul-edge : tie.Need-mul-edge Inv-loop μ-loop
 mul-edge c =
-    let start = c .before .before .before .before .before in
+    let start = c .before .before .before .before .before .before in
     let fits = start .pre .1 .1 .0 in
     let layer = start .args .layer in
-    omega (arith, fits, mul-le-mul-left {m = layer .first} {n = mostRows} (3 * layer .nx) (omega (arith, fits)))
+    omega (arith, fits, mul-add (3 * layer .nx) (layer .first) 0, start .pre .1 .1 .1 .edges 0 0 0 (omega (arith, fits)) (omega (arith, fits)) (omega arith), start)
 
 loop-holds : tie.Need-loop-holds Inv-loop μ-loop
 loop-holds c =
-    let a = c .before .before .before .before .before .args in (
+    let a = c .before .before .before .before .before .before .args in (
       omega arith,
       ap (λ r. 3 * a .layer .nx * r) (omega arith),
       written-nothing (a .triangles .now) (a .at) _
@@ -46,7 +45,7 @@ loop-holds c =
 
 -- from a turn back to the function's entry
 abbrev begun : tie.In-loop Inv-loop μ-loop → tie.Start Inv-loop μ-loop
-begun c = c .before .before .before .before .before .before .before
+begun c = c .before .before .before .before .before .before .before .before
 
 add-masks-at : tie.Need-add-masks-at Inv-loop μ-loop
 add-masks-at c = omega (arith, begun (c .before) .pre .1 .1 .0)
@@ -70,7 +69,7 @@ write-row-requires c κs =
         (
           omega (arith, pre .1 .1 .0),
           (
-            above-row _ (pre .1 .1 .0),
+            above-row _ _ (pre .1 .1 .0),
             row-room (a .offsets .now) (a .work .now) (a .layer .nx) (a .layer .ny) (a .masks .now) (a .layer .first) (a .triangles .now) (l .triangles) (a .at)
                 (l .to)
                 (l .y)
@@ -126,7 +125,7 @@ same-length c = written-length _ _ _ _ _ (c .before .loop .inv .2)
 
 returns : tie.Need-returns Inv-loop μ-loop
 returns c =
-    let e : c .before .loop .y ≡ c .before .before .before .before .before .before .before .args .layer .ny - 1 = omega arith in
+    let e : c .before .loop .y ≡ c .before .before .before .before .before .before .before .before .args .layer .ny - 1 = omega arith in
     rw (← e) (c .before .loop .inv .2)
 
 pub write-layer-spec : {M : Type 1} → statement M

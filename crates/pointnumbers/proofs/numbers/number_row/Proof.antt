@@ -8,9 +8,10 @@ use denote.Ref.{now}
 use Rattle.laws.specs.Bits.{wordBits, halved}
 use Rattle.grid.specs.Limits.{mostRows, mostEdges}
 use Rattle.grid.specs.Grid.{axes, edgeCount}
+use Rattle.grid.proofs.Sides.{rows-most}
 use Rattle.rows.specs.Rows.{sizeOf, firstEdge}
 use Rattle.pointnumbers.specs.Numbers.{NumberedTo}
-use Rattle.rows.proofs.Bounds.{row-small, edges-few, sample-small, next-row}
+use Rattle.rows.proofs.Bounds.{row-there, edges-few, sample-small, next-row}
 use Rattle.rows.proofs.Cut.{row-passed, tested}
 use Rattle.rows.proofs.Busy.{Found, found, rest-uncut}
 use Rattle.pointnumbers.proofs.Numbering.{numbers-few, sample-passed, none-passed}
@@ -26,19 +27,22 @@ abbrev μ-loop : tie.MeasureT-loop
 μ-loop sides y z from masks work₀ row first busy₀ n₀ next₀ work busy n next = sides .nx - next
 
 abbrev start : tie.At-loop Inv-loop μ-loop → tie.Start Inv-loop μ-loop
-start l = l .before .before .before .before .before .before
+start l = l .before .before .before .before .before .before .before
 
 -- the edges that leave the sample at x
 abbrev edges-at : tie.Start Inv-loop μ-loop → ℕ → ℕ
 edges-at s x = firstEdge (s .args .sides) (s .args .y) (s .args .z) + 3 * x
 
 row-at-requires : tie.Need-row-at-requires Inv-loop μ-loop
-row-at-requires c κs = (c .before .pre .0 .fit, (c .before .pre .1 .0, c .before .pre .1 .1 .0))
+row-at-requires c κs =
+    let s = c .before .before in
+    (s .pre .0 .rows, (s .pre .1 .0, s .pre .1 .1 .0))
 
 -- the row's place among the rows, and its first edge, are small
 row-few : (s : tie.Start Inv-loop μ-loop) → s .args .y + s .args .sides .ny * s .args .z < mostRows
 row-few s =
-    row-small (s .args .sides .ny) (s .args .sides .nz) (s .pre .0 .fit .most-y) (s .pre .0 .fit .most-z) (s .args .y) (s .args .z) (s .pre .1 .0) (s .pre .1 .1 .0)
+    let a = s .args .sides in
+    omega (arith, row-there (a .ny) (a .nz) (s .args .y) (s .args .z) (s .pre .1 .0) (s .pre .1 .1 .0), rows-most (a .nx) (a .ny) (a .nz) (s .pre .0 .fit))
 
 first-few : (s : tie.Start Inv-loop μ-loop) → firstEdge (s .args .sides) (s .args .y) (s .args .z) < mostEdges
 first-few s =
@@ -49,16 +53,16 @@ first-few s =
     )
 
 mul-first : tie.Need-mul-first Inv-loop μ-loop
-mul-first c = omega (arith, row-few (c .before .before .before))
+mul-first c = omega (arith, row-few (c .before .before .before .before))
 
 add-first : tie.Need-add-first Inv-loop μ-loop
-add-first c = omega (arith, row-few (c .before .before .before))
+add-first c = omega (arith, row-few (c .before .before .before .before))
 
 mul-first-2 : tie.Need-mul-first-2 Inv-loop μ-loop
-mul-first-2 c = omega (arith, first-few (c .before .before .before .before))
+mul-first-2 c = omega (arith, first-few (c .before .before .before .before .before))
 
 mul-first-3 : tie.Need-mul-first-3 Inv-loop μ-loop
-mul-first-3 c = omega (arith, first-few (c .before .before .before .before))
+mul-first-3 c = omega (arith, first-few (c .before .before .before .before .before))
 
 busy-word-requires : tie.Need-busy-word-requires Inv-loop μ-loop
 busy-word-requires c κs = tt
@@ -66,7 +70,7 @@ busy-word-requires c κs = tt
 loop-holds : tie.Need-loop-holds Inv-loop μ-loop
 unfolding halved
 loop-holds c =
-    let s = c .before .before .before .before .before in
+    let s = c .before .before .before .before .before .before in
     let none : edges-at s 0 ≡ firstEdge (s .args .sides) (s .args .y) (s .args .z) = omega arith in
     (omega arith, refl, rw none (s .pre .1 .1 .1))
 
@@ -81,7 +85,7 @@ next-busy c =
     let a = s .args in
     let row = l .before .before .before .before .row-at in
     let word = l .before .busy-word in
-    found (a .sides) (s .pre .0) (now (a .masks)) (a .y) (a .z) (s .pre .1 .0) (s .pre .1 .1 .0) (row .result) (row .ensures) (word .result) (word .ensures)
+    found (a .sides) (now (a .masks)) (s .pre .0) (a .y) (a .z) (s .pre .1 .0) (s .pre .1 .1 .0) (row .result) (row .ensures) (word .result) (word .ensures)
     (l .loop .next)
     (l .loop .busy)
     (l .loop .inv .1)
@@ -196,7 +200,7 @@ returns c =
     let q : firstEdge (a .sides) (a .y + 1) (a .z) ≡ edges-at s (l .loop .next) + rest = omega (arith, next-row (a .sides) (a .y) (a .z), l .loop .inv .0) in
     rw q
     (none-passed (a .sides) (now (a .masks)) (edges-at s (l .loop .next)) (l .loop .n) (l .loop .work) (l .loop .inv .2) rest
-    (rest-uncut (a .sides) (s .pre .0) (now (a .masks)) (a .y) (a .z) (s .pre .1 .0) (s .pre .1 .1 .0) (row .result) (row .ensures) (word .result) (word .ensures)
+    (rest-uncut (a .sides) (now (a .masks)) (s .pre .0) (a .y) (a .z) (s .pre .1 .0) (s .pre .1 .1 .0) (row .result) (row .ensures) (word .result) (word .ensures)
     (l .loop .next)
     (l .loop .busy)
     (l .loop .inv .1)

@@ -20,7 +20,7 @@ abbrev μ-loop : tie.MeasureT-loop
 μ-loop sides grey z from samples masks points₀ edges₀ marks₀ n₀ y₀ points edges marks n y = sides .ny - y
 
 abbrev start : tie.At-loop Inv-loop μ-loop → tie.Start Inv-loop μ-loop
-start l = l .before .before .before .before .before
+start l = l .before .before .before .before .before .before
 
 -- the rooms as they come, at the loop's head, and past a row
 abbrev first-rooms : tie.Start Inv-loop μ-loop → PointRooms
@@ -40,7 +40,7 @@ row-there c = omega arith
 
 loop-holds : tie.Need-loop-holds Inv-loop μ-loop
 loop-holds c =
-    let s = c .before .before .before .before in
+    let s = c .before .before .before .before .before in
     let a = s .args in (
       omega arith,
       record { points = refl; edges = refl; marks = refl },

@@ -7,11 +7,11 @@ use lib.Count.{trailingZeros}
 use denote.Ref.{now}
 use Rattle.laws.specs.Bits.{wordBits, halved}
 use Rattle.grid.specs.Limits.{mostRows, mostSamples}
-use Rattle.grid.proofs.Sides.{samples-most}
+use Rattle.grid.proofs.Sides.{rows-most, samples-most}
 use Rattle.rows.specs.Rows.{firstEdge}
 use Rattle.edgepoints.specs.EdgePoint.{PointRooms, pointRooms}
 use Rattle.pointplaces.specs.Places.{countAll, Advanced}
-use Rattle.rows.proofs.Bounds.{row-small, sample-small, next-row}
+use Rattle.rows.proofs.Bounds.{row-there, sample-small, next-row}
 use Rattle.rows.proofs.Cut.{row-passed, Tested, tested}
 use Rattle.rows.proofs.Busy.{Found, found, rest-uncut}
 use Rattle.pointplaces.proofs.Placing.{SameLengths, room-kept, none-passed, advanced-none, advanced-on, sample-passed}
@@ -29,7 +29,7 @@ abbrev μ-loop : tie.MeasureT-loop
 μ-loop sides grey y z from samples masks points₀ edges₀ marks₀ row first busy₀ n₀ next₀ points edges marks busy n next = sides .nx - next
 
 abbrev start : tie.At-loop Inv-loop μ-loop → tie.Start Inv-loop μ-loop
-start l = l .before .before .before .before .before .before .before .before .before
+start l = l .before .before .before .before .before .before .before .before .before .before
 
 -- the rooms as they come, at the loop's head, and past a sample
 abbrev first-rooms : tie.Start Inv-loop μ-loop → PointRooms
@@ -52,14 +52,14 @@ edges-at s x = firstEdge (s .args .sides) (s .args .y) (s .args .z) + 3 * x
 
 row-at-requires : tie.Need-row-at-requires Inv-loop μ-loop
 row-at-requires c κs =
-    let s = c .before .before .before .before in
-    (s .pre .0 .ready .fit, (s .pre .1 .0, s .pre .1 .1 .0))
+    let s = c .before .before .before .before .before in
+    (s .pre .0 .ready .rows, (s .pre .1 .0, s .pre .1 .1 .0))
 
 -- the row's place among the rows, and its samples, are small
 row-few : (s : tie.Start Inv-loop μ-loop) → s .args .y + s .args .sides .ny * s .args .z < mostRows
 row-few s =
-    let fit = s .pre .0 .ready .fit in
-    row-small (s .args .sides .ny) (s .args .sides .nz) (fit .most-y) (fit .most-z) (s .args .y) (s .args .z) (s .pre .1 .0) (s .pre .1 .1 .0)
+    let a = s .args .sides in
+    omega (arith, row-there (a .ny) (a .nz) (s .args .y) (s .args .z) (s .pre .1 .0) (s .pre .1 .1 .0), rows-most (a .nx) (a .ny) (a .nz) (s .pre .0 .ready .fit))
 
 sample-few : (s : tie.Start Inv-loop μ-loop) (x : ℕ) → x < s .args .sides .nx → sample-at s x < mostSamples
 sample-few s x h =
@@ -70,14 +70,14 @@ sample-few s x h =
     )
 
 mul-first : tie.Need-mul-first Inv-loop μ-loop
-mul-first c = omega (arith, row-few (c .before .before .before .before .before .before))
+mul-first c = omega (arith, row-few (c .before .before .before .before .before .before .before))
 
 add-first : tie.Need-add-first Inv-loop μ-loop
-add-first c = omega (arith, row-few (c .before .before .before .before .before .before))
+add-first c = omega (arith, row-few (c .before .before .before .before .before .before .before))
 
 mul-first-2 : tie.Need-mul-first-2 Inv-loop μ-loop
 mul-first-2 c =
-    let s = c .before .before .before .before .before .before .before in
+    let s = c .before .before .before .before .before .before .before .before in
     omega (arith, sample-few s 0 (omega (arith, s .pre .0 .ready .fit .least-x)))
 
 busy-word-requires : tie.Need-busy-word-requires Inv-loop μ-loop
@@ -86,7 +86,7 @@ busy-word-requires c κs = tt
 loop-holds : tie.Need-loop-holds Inv-loop μ-loop
 unfolding halved
 loop-holds c =
-    let s = c .before .before .before .before .before .before .before .before in
+    let s = c .before .before .before .before .before .before .before .before .before in
     let a = s .args in
     let none : edges-at s 0 ≡ firstEdge (a .sides) (a .y) (a .z) = omega arith in (
       omega arith,
@@ -109,7 +109,7 @@ next-busy c =
     let a = s .args in
     let row = l .before .before .before .before .row-at in
     let word = l .before .busy-word in
-    found (a .sides) (s .pre .0 .ready) (now (a .masks)) (a .y) (a .z) (s .pre .1 .0) (s .pre .1 .1 .0) (row .result) (row .ensures) (word .result) (word .ensures)
+    found (a .sides) (now (a .masks)) (s .pre .0 .ready) (a .y) (a .z) (s .pre .1 .0) (s .pre .1 .1 .0) (row .result) (row .ensures) (word .result) (word .ensures)
     (l .loop .next)
     (l .loop .busy)
     (l .loop .inv .1)
@@ -271,7 +271,7 @@ returns c =
     let q : firstEdge (a .sides) (a .y + 1) (a .z) ≡ here + rest = omega (arith, next-row (a .sides) (a .y) (a .z), l .loop .inv .0) in
     let over =
     none-passed (a .sides) (a .grey) (now (a .samples)) (now (a .masks)) here (l .loop .n) (loop-rooms l) (so .counted) rest
-    (rest-uncut (a .sides) (s .pre .0 .ready) (now (a .masks)) (a .y) (a .z) (s .pre .1 .0) (s .pre .1 .1 .0) (row .result) (row .ensures) (word .result) (word .ensures)
+    (rest-uncut (a .sides) (now (a .masks)) (s .pre .0 .ready) (a .y) (a .z) (s .pre .1 .0) (s .pre .1 .1 .0) (row .result) (row .ensures) (word .result) (word .ensures)
     (l .loop .next)
     (l .loop .busy)
     (l .loop .inv .1)
