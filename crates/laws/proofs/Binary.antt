@@ -30,6 +30,16 @@ bit-of-bits [] i l = absurd (omega arith)
 bit-of-bits (b ∷ bs) zero l = low b (bits bs)
 bit-of-bits (b ∷ bs) (suc i) l = rw (rest b (bits bs)) (bit-of-bits bs i (omega arith))
 
+-- a bit as a number, and back
+pub bit-back : (b : Bool) → eqb (one-if b) 1 ≡ b
+bit-back true = refl
+bit-back false = refl
+
+pub number-back : (n : ℕ) → n ≤ 1 → one-if (eqb n 1) ≡ n
+number-back zero h = refl
+number-back (suc zero) h = refl
+number-back (suc (suc n)) h = absurd (omega arith)
+
 pub bit-le : (b : Bool) → one-if b ≤ 1
 bit-le true = omega arith
 bit-le false = omega arith

@@ -1,18 +1,18 @@
 -- A number's bits, read off as it is halved again and again.
 use mathlib.Core.Path.{_≡_, refl, ap, sym, _∙_}
 use mathlib.Core.List.{List, [], _∷_, _++_}
-use mathlib.Core.Bool.{Bool, true, false}
+use mathlib.Core.Bool.{Bool, false}
 use Prim.Native.Nat.{ℕ, zero, suc, _+_, _*_, _/_, _%_, _^_, _<_}
 use native.Mathlib.Numerals.{add-one}
 use native.Mathlib.Nat.{add-zero, zero-add, suc-add, one-mul, mul-assoc, mul-comm, pow-suc}
 use native.Mathlib.Omega.{arith}
 use lib.Dec.{eqb, ltb, leb·suc-suc}
 use lib.Pow.{pow-pos}
-use borrow.Author.Tests.{eq-eqb, lt-ltb, le-ltb, eqb-true, eqb-false}
+use borrow.Author.Tests.{eq-eqb, lt-ltb, le-ltb}
 use lib.ListN.{length, getD}
 use Rattle.laws.specs.Range.{one-if}
 use Rattle.laws.specs.Bits.{bits, bit, valuesFrom, halved}
-use Rattle.laws.proofs.Binary.{bit-of-bits}
+use Rattle.laws.proofs.Binary.{bit-of-bits, number-back}
 
 pub halved-next : (n i : ℕ) → halved n (i + 1) ≡ halved n i / 2
 unfolding halved
@@ -73,15 +73,8 @@ bit-of-ones zero n x e = let z : n ≡ 0 = omega arith in rw z (bit-of-zero x �
 bit-of-ones (suc k) n zero e = eq-eqb (n % 2) 1 (omega (arith, pow-suc 2 k)) ∙ sym (lt-ltb 0 (suc k) (omega arith))
 bit-of-ones (suc k) n (suc x) e = bit-of-ones k (n / 2) x (omega (arith, pow-suc 2 k, pow-pos k)) ∙ sym (leb·suc-suc (suc x) k)
 
-lowest : (n : ℕ) → one-if (eqb (n % 2) 1) ≡ n % 2
-lowest n = go (eqb (n % 2) 1) refl
-  where
-    go : (b : Bool) → eqb (n % 2) 1 ≡ b → one-if b ≡ n % 2
-    go true e = omega (arith, eqb-true (n % 2) 1 e)
-    go false e = let h : n % 2 ≡ 1 → ⊥ = eqb-false (n % 2) 1 e in omega arith
-
 -- the two lowest bits of a number halved x times
 pub two-bits : (n x : ℕ) → halved n x % 4 ≡ one-if (bit n x) + 2 * one-if (bit n (x + 1))
 two-bits n x =
     rw (bit-halved n x, bit-halved n (x + 1), halved-next n x)
-    (omega (arith, lowest (halved n x), lowest (halved n x / 2)))
+    (omega (arith, number-back (halved n x % 2) (omega arith), number-back (halved n x / 2 % 2) (omega arith)))

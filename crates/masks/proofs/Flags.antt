@@ -1,48 +1,37 @@
--- Flags, written one after the other.
-use mathlib.Core.Path.{_≡_, refl, ap, _∙_}
+-- Flags as bytes and as Booleans, and those of samples laid over the front of others.
+use mathlib.Core.Path.{_≡_, ap, sym, subst, _∙_}
 use mathlib.Core.List.{List}
-use mathlib.Core.Bool.{Bool, true, false}
-use Prim.Native.Nat.{ℕ, zero, suc, _+_, _<_, _≤_}
-use native.Mathlib.Decide.{decLt, ℕ-discrete}
+use Prim.Native.Nat.{ℕ, _+_, _-_, _<_, _≤_}
+use native.Mathlib.Decide.{decLt}
 use native.Mathlib.Omega.{arith}
 use lib.Dec.{eqb}
-use lib.ListN.{length, getD, set}
-use lib.Seq.{getD-set-same, getD-set-other}
+use lib.ListN.{length, getD}
 use Rattle.laws.specs.Range.{one-if}
-use Rattle.laws.proofs.Binary.{bit-le}
+use Rattle.laws.specs.Room.{laid}
+use Rattle.laws.proofs.Binary.{bit-back, number-back, bit-le}
+use Rattle.laws.proofs.Rooms.{laid-rest}
+use Rattle.laws.proofs.Values.{length-list, laid-at}
 use Rattle.grid.specs.Grid.{isAboveGrey}
-use Rattle.masks.specs.Flags.{flagSet, AreFlags, Flagged}
+use Rattle.masks.specs.Flags.{AreFlags, flagsFrom, flagSet}
 
 pub flag-byte : (flags : List ℕ) → AreFlags flags → (i : ℕ) → getD flags i 0 ≡ one-if (flagSet flags i)
 unfolding flagSet
-flag-byte flags are i = go (getD flags i 0) (are i)
-  where
-    go : (n : ℕ) → n ≤ 1 → n ≡ one-if (eqb n 1)
-    go zero h = refl
-    go (suc zero) h = refl
-    go (suc (suc n)) h = absurd (omega arith)
+flag-byte flags are i = sym (number-back (getD flags i 0) (are i))
 
--- one flag more
-module _ (flags : List ℕ) (i n : ℕ) (b : Bool) (room : i < length flags) (flag : n ≡ one-if b) where
-  written : getD (set flags i n) i 0 ≡ one-if b
-  written = getD-set-same flags i n 0 room ∙ flag
+module _ (grey : ℕ) (samples : List ℕ) (start many : ℕ) (room : List ℕ) where
+  abbrev flags : List ℕ
+  flags = laid (flagsFrom grey samples start many) room
 
-  pub still-flags : AreFlags flags → AreFlags (set flags i n)
-  still-flags are j = go (ℕ-discrete j i)
+  pub flag-is : (i : ℕ) → i < many → flagSet flags i ≡ isAboveGrey grey samples (start + i)
+  unfolding flagSet flagsFrom
+  flag-is i l = ap (λ n. eqb n 1) (laid-at many i _ room 0 l) ∙ bit-back (isAboveGrey grey samples (start + i))
+
+  pub still-flags : AreFlags room → AreFlags flags
+  unfolding flagsFrom
+  still-flags are i = go (decLt i many)
     where
-      go : Dec (j ≡ i) → getD (set flags i n) j 0 ≤ 1
-      go (yes e) = rw e (omega (arith, written, bit-le b))
-      go (no apart) = rw (getD-set-other flags i j n 0 apart) (are j)
-
-  pub flag-next : (grey : ℕ) (samples : List ℕ) (start : ℕ) → b ≡ isAboveGrey grey samples (start + i)
-      → Flagged grey samples start i flags → Flagged grey samples start (i + 1) (set flags i n)
-  unfolding flagSet
-  flag-next grey samples start e so-far j l = go (decLt j i)
-    where
-      set-if : (b : Bool) → eqb (one-if b) 1 ≡ b
-      set-if true = refl
-      set-if false = refl
-
-      go : Dec (j < i) → flagSet (set flags i n) j ≡ isAboveGrey grey samples (start + j)
-      go (yes less) = ap (λ k. eqb k 1) (getD-set-other flags i j n 0 (λ same. omega arith)) ∙ so-far j less
-      go (no not-less) = let same : j ≡ i = omega arith in rw same (ap (λ k. eqb k 1) written ∙ set-if b ∙ e)
+      go : Dec (i < many) → getD flags i 0 ≤ 1
+      go (yes l) = rw (laid-at many i _ room 0 l) (bit-le (isAboveGrey grey samples (start + i)))
+      go (no past) =
+          let e : length (flagsFrom grey samples start many) + (i - many) ≡ i = omega (arith, length-list many (λ i. one-if (isAboveGrey grey samples (start + i)))) in
+          subst (λ k. getD flags k 0 ≤ 1) e (rw (laid-rest (flagsFrom grey samples start many) room (i - many) 0) (are _))

@@ -1,31 +1,25 @@
 -- Flags gathered to masks: eight by one product, and masks joined to longer ones.
 use mathlib.Core.Path.{_≡_, refl, sym}
-use mathlib.Core.List.{List, [], _∷_}
-use mathlib.Core.Bool.{Bool, true, false}
-use Prim.Native.Nat.{ℕ, _+_, _*_, _/_, _%_, _^_}
+use mathlib.Core.List.{List, [], _∷_, map}
+use mathlib.Core.Bool.{Bool, true}
+use Prim.Native.Nat.{ℕ, _+_, _*_, _/_, _%_, _^_, _<_}
 use native.Mathlib.Nat.{add-assoc}
 use native.Mathlib.Omega.{arith}
 use lib.Dec.{eqb}
-use lib.ListN.{getD}
 use borrow.Author.Tests.{eqb-true}
 use Rattle.laws.specs.Range.{one-if}
-use Rattle.laws.specs.Bits.{allRows, bits, valuesFrom}
+use Rattle.laws.specs.Bits.{allRows, bits, bit, valuesFrom}
 use Rattle.laws.proofs.Halves.{length-values, bit-of-values, values-append, bits-append}
 use Rattle.laws.proofs.Tests.{row-at}
 use Rattle.masks.proofs.Flags.{flag-byte}
-use Rattle.masks.specs.Flags.{flagSet, AreFlags, fourBytes, flagMask, MaskOf}
+use Rattle.masks.specs.Flags.{AreFlags, fourBytes, flagSet, flagMask}
 
--- four of a row of Booleans a byte each, and eight of them by the product
-abbrev four : List Bool → ℕ → ℕ
-four bs i =
-    one-if (getD bs i false) + 2 ^ 8 * one-if (getD bs (i + 1) false)
-    + 2 ^ 16 * (one-if (getD bs (i + 2) false) + 2 ^ 8 * one-if (getD bs (i + 3) false))
-
+-- eight flags by the product
 abbrev product : ℕ → ℕ
 product n = n * (2 ^ 24 + 2 ^ 17 + 2 ^ 10 + 2 ^ 3) / 2 ^ 24 % 2 ^ 8
 
 abbrev gathers : List Bool → Bool
-gathers bs = eqb (product (four bs 0 + 2 ^ 4 * four bs 4)) (bits bs)
+gathers bs = let flags = map one-if bs in eqb (product (fourBytes flags 0 + 2 ^ 4 * fourBytes flags 4)) (bits bs)
 
 every-row-gathers : allRows 8 gathers ≡ true
 unfolding allRows bits
@@ -40,9 +34,9 @@ module _ (flags : List ℕ) where
       simp (add-assoc at, flag-byte flags are) (eqb-true _ _ (row-at 8 gathers every-row-gathers row refl))
 
   -- a mask's bits, and a longer mask
-  pub mask-bits : (at n m : ℕ) → m ≡ flagMask flags at n → MaskOf flags at n m
+  pub mask-bit : (at n x : ℕ) → x < n → bit (flagMask flags at n) x ≡ flagSet flags (at + x)
   unfolding flagMask
-  mask-bits at n m e x l = rw e (bit-of-values (flagSet flags) at n x l)
+  mask-bit at n x l = bit-of-values (flagSet flags) at n x l
 
   pub mask-join : (at m n : ℕ) → flagMask flags at m + 2 ^ m * flagMask flags (at + m) n ≡ flagMask flags at (m + n)
   unfolding flagMask

@@ -3,10 +3,12 @@ ghost use mathlib.Core.Path.{_≡_};
 ghost use Prim.Native.Nat.{_+_, _*_, _/_, _<_, _≤_, _^_};
 ghost use lib.Dec.{leb};
 ghost use lib.ListN.{length, getD};
+ghost use lib.Seq.{sets};
 ghost use Rattle.laws.specs.Bits.{wordBits};
 ghost use Rattle.laws.specs.Range.{one-if};
+ghost use Rattle.laws.specs.Room.{laid};
 ghost use Rattle.masks.specs.Masks.{Masked, AllSet};
-ghost use Rattle.masks.specs.Flags.{mostFlagged, flagBytes, AreFlags, Flagged, fourBytes, flagMask, MaskOf, RowsMasked};
+ghost use Rattle.masks.specs.Flags.{mostFlagged, flagBytes, AreFlags, flagsFrom, fourBytes, flagMask, gathered, rowMasks};
 use laws::WORD_BITS;
 
 // Samples that are flagged at a time, and the bytes of their flags: from each of them on a word can be gathered.
@@ -42,9 +44,7 @@ fn above_flag(sample: u16, grey: u16) -> u8
 fn flag_samples(samples: &[u16], start: usize, many: usize, grey: u16, flags: &mut [u8])
     requires { ⌜ start + many ≤ length (now samples) ⌝ }
     requires { ⌜ many ≤ length (now flags) ⌝ }
-    requires { ⌜ AreFlags (now flags) ⌝ }
-    ensures flags { λ _. ⌜ AreFlags (now (flags .exit)) ⌝ }
-    ensures flagged { λ _. ⌜ Flagged grey (now (samples .entry)) start many (now (flags .exit)) ⌝ }
+    ensures { λ _. ⌜ now (flags .exit) ≡ laid (flagsFrom grey (now (samples .entry)) start many) (now (flags .entry)) ⌝ }
 {
     for i in 0..many {
         flags[i] = above_flag(samples[start + i], grey);
@@ -94,9 +94,9 @@ fn half_mask(flags: &[u8; FLAG_BYTES], at: usize) -> u64
 
 // The mask of a row whose flags stand from `at` on. Its bits past the row's end are flags of other rows.
 fn row_mask(flags: &[u8; FLAG_BYTES], at: usize, nx: usize) -> u64
-    requires { ⌜ (nx ≤ wordBits) × (at ≤ mostFlagged) ⌝ }
+    requires { ⌜ at ≤ mostFlagged ⌝ }
     requires { ⌜ AreFlags (now flags) ⌝ }
-    ensures { λ r. ⌜ MaskOf (now (flags .entry)) at nx r ⌝ }
+    ensures { λ r. ⌜ r ≡ flagMask (now (flags .entry)) at (gathered nx) ⌝ }
 {
     let low = half_mask(flags, at);
     if nx <= HALF_WORD {
@@ -107,10 +107,10 @@ fn row_mask(flags: &[u8; FLAG_BYTES], at: usize, nx: usize) -> u64
 
 // The masks of so many rows from row `from` on, whose flags stand one after the other.
 fn mask_rows(flags: &[u8; FLAG_BYTES], nx: usize, from: usize, many: usize, masks: &mut [u64])
-    requires { ⌜ (0 < nx) × (nx ≤ wordBits) × (nx * many ≤ mostFlagged) ⌝ }
+    requires { ⌜ nx * many ≤ mostFlagged ⌝ }
     requires { ⌜ from + many ≤ length (now masks) ⌝ }
     requires { ⌜ AreFlags (now flags) ⌝ }
-    ensures { λ _. ⌜ RowsMasked (now (flags .entry)) nx from many (now (masks .entry)) (now (masks .exit)) ⌝ }
+    ensures { λ _. ⌜ now (masks .exit) ≡ sets (now (masks .entry)) from (rowMasks (now (flags .entry)) nx many) ⌝ }
 {
     let mut at = 0;
     for r in 0..many {

@@ -3,10 +3,10 @@ use mathlib.Core.Path.{_≡_}
 use Prim.Native.Nat.{ℕ, _+_, _*_, _<_, _≤_}
 use native.Mathlib.Nat.{mul-add, mul-one, mul-zero, add-zero, zero-add}
 use native.Mathlib.Omega.{arith}
-use Rattle.grid.specs.Limits.{mostEdges}
+use Rattle.grid.specs.Limits.{mostRows, mostEdges}
 use Rattle.grid.specs.Grid.{axes, sampleCount, edgeCount}
 use Rattle.grid.specs.Work.{SidesFit}
-use Rattle.grid.proofs.Sides.{samples-most}
+use Rattle.grid.proofs.Sides.{rows-most, samples-most}
 use Rattle.laws.proofs.Digits.{low-lt}
 use Rattle.rows.specs.declared.Sides.{Sides}
 use Rattle.rows.specs.Rows.{sizeOf, firstEdge}
@@ -22,7 +22,10 @@ module _ (ny nz y z : ℕ) where
   pub over-there : y < ny → z + 1 < nz → y + ny * z + ny < ny * nz
   over-there hy hz = omega (arith, low-lt y ny (z + 1) nz hy hz, mul-add ny z 1, mul-one ny)
 
--- the edges of a grid
+-- the rows of a grid, and its edges
+pub row-few : (sides : Sides) → SidesFit (sides .nx) (sides .ny) (sides .nz) → (y z : ℕ) → y < sides .ny → z < sides .nz → y + sides .ny * z < mostRows
+row-few sides fit y z hy hz = omega (arith, row-there (sides .ny) (sides .nz) y z hy hz, rows-most (sides .nx) (sides .ny) (sides .nz) fit)
+
 pub edges-few : (sides : Sides) → SidesFit (sides .nx) (sides .ny) (sides .nz) → edgeCount axes (sizeOf sides) ≤ mostEdges
 edges-few sides fit = omega (arith, samples-most (sides .nx) (sides .ny) (sides .nz) fit)
 

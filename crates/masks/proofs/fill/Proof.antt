@@ -8,6 +8,7 @@ use lib.ListN.{length}
 use Rattle.laws.proofs.Rooms.{zeros-at}
 use Rattle.masks.specs.Masks.{Masked}
 use Rattle.masks.specs.Flags.{flagBytes, mostFlagged, AreFlags}
+use Rattle.masks.proofs.Flags.{still-flags}
 use Rattle.masks.proofs.Rows.{batch-next, some-row, batch-fits}
 use Rattle.masks.proofs.fill.Statement.{statement}
 use Rattle.masks.proofs.fill.Tie as tie
@@ -65,13 +66,20 @@ slice-aggregate-flag-samples c = sym (c .before .before .before .loop .inv .1)
 flag-samples-requires : tie.Need-flag-samples-requires Inv-loop μ-loop
 flag-samples-requires c κs =
     let l = c .before .before .before .loop in
-    (omega (arith, batch (c .before)), (omega (arith, batch (c .before), l .inv .1), l .inv .3))
+    (omega (arith, batch (c .before)), omega (arith, batch (c .before), l .inv .1))
+
+-- flags stay flags
+flags-next : (c : tie.After-flag-samples Inv-loop μ-loop) → AreFlags (c .flag-samples .last .1 .1 .1 .1 .0)
+flags-next c =
+    let a = c .before .before .before .before .before .before .before .args in
+    let l = c .before .before .before .before .loop in
+    rw (c .flag-samples .ensures) (still-flags (a .grey) (a .samples .now) _ _ (l .flags) (l .inv .3))
 
 mask-rows-requires : tie.Need-mask-rows-requires Inv-loop μ-loop
 mask-rows-requires c κs =
     let batch = batch (c .before .before .before .before .before) in
     let l = c .before .before .before .before .before .before .before .loop in
-    ((omega arith, omega arith, batch .fits), (omega (arith, batch .left, l .inv .0), c .before .before .before .flag-samples .ensures .0))
+    (batch .fits, (omega (arith, batch .left, l .inv .0), flags-next (c .before .before .before)))
 
 add-r : tie.Need-add-r Inv-loop μ-loop
 add-r c = omega (arith, batch (c .before .before .before .before .before .before .before .before) .left)
@@ -89,8 +97,11 @@ loop-again c =
       masked .kept .1 .1 .1 .1 .0 ∙ l .inv .0,
       flagged .kept .1 .1 .1 .1 .0 ∙ l .inv .1,
       batch .left,
-      flagged .ensures .0,
-      batch-next (a .nx) (omega arith) (a .grey) (a .samples .now) _ (l .masks) _ (l .r) _ (flagged .ensures .1) (masked .ensures) (l .inv .4),
+      flags-next (c .before .before .before .before .before .before),
+      rw (masked .ensures)
+          (batch-next (a .nx) (omega arith) (a .grey) (a .samples .now) _ (l .flags) (l .masks) (l .r) _ (omega arith) (omega (arith, batch .left, l .inv .0))
+          (flagged .ensures)
+          (l .inv .4)),
     )
 
 same-length : tie.Need-same-length Inv-loop μ-loop

@@ -1,24 +1,27 @@
 -- `masks::flag_samples` meets its contract. The samples passed are flagged. Assumes nothing.
-use mathlib.Core.Path.{_≡_, refl}
-use Prim.Native.Nat.{_+_, _-_, _≤_}
+use mathlib.Core.Path.{_≡_, refl, sym}
+use Prim.Native.Nat.{ℕ, _+_, _-_, _≤_}
 use native.Mathlib.Omega.{arith}
 use lib.Dec.{leb}
 use lib.ListN.{length, getD, length-set}
 use borrow.Author.Needs.{needs}
+use Rattle.laws.specs.Range.{one-if}
+use Rattle.laws.specs.Room.{laid}
+use Rattle.laws.proofs.Values.{laid-none, laid-more}
 use Rattle.grid.specs.Grid.{isAboveGrey}
-use Rattle.masks.specs.Flags.{AreFlags, Flagged}
-use Rattle.masks.proofs.Flags.{still-flags, flag-next}
+use Rattle.masks.specs.Flags.{flagsFrom}
 use Rattle.masks.proofs.flag_samples.Statement.{statement}
 use Rattle.masks.proofs.flag_samples.Tie as tie
 
 abbrev Inv-loop : tie.InvT-loop
-Inv-loop samples start many grey flags₀ i₀ flags i = (length flags ≡ length flags₀) × (i ≤ many) × AreFlags flags × Flagged grey samples start i flags
+Inv-loop samples start many grey flags₀ i₀ flags i = (length flags ≡ length flags₀) × (i ≤ many) × (flags ≡ laid (flagsFrom grey samples start i) flags₀)
 
 abbrev μ-loop : tie.MeasureT-loop
 μ-loop samples start many grey flags₀ i₀ flags i = many - i
 
 loop-holds : tie.Need-loop-holds Inv-loop μ-loop
-loop-holds c = (refl, omega arith, c .before .before .pre .1 .1, λ i l. absurd (omega arith))
+unfolding flagsFrom
+loop-holds c = (refl, omega arith, sym (laid-none _ (c .before .before .args .flags .now)))
 
 add-above-flag : tie.Need-add-above-flag Inv-loop μ-loop
 add-above-flag c = search needs
@@ -42,15 +45,14 @@ loop-less : tie.Need-loop-less Inv-loop μ-loop
 loop-less c = search needs
 
 loop-again : tie.Need-loop-again Inv-loop μ-loop
-unfolding isAboveGrey
+unfolding flagsFrom isAboveGrey
 loop-again c =
     let a = c .before .before .before .before .before .before .args in
     let l = c .before .before .before .loop in
-    let b = leb (a .grey) (getD (a .samples .now) (a .start + l .i) 0) in (
+    let flag : ℕ → ℕ = λ i. one-if (leb (a .grey) (getD (a .samples .now) (a .start + i) 0)) in (
       simp length-set (l .inv .0),
       omega arith,
-      still-flags (l .flags) (l .i) (c .above-flag .result) b (omega arith) (c .above-flag .ensures) (l .inv .2),
-      flag-next (l .flags) (l .i) (c .above-flag .result) b (omega arith) (c .above-flag .ensures) (a .grey) (a .samples .now) (a .start) refl (l .inv .3),
+      rw (l .inv .2, c .above-flag .ensures) (laid-more (l .i) flag (a .flags .now) (omega (arith, l .inv .0))),
     )
 
 same-length : tie.Need-same-length Inv-loop μ-loop
@@ -59,7 +61,8 @@ same-length c = c .before .loop .inv .0
 returns : tie.Need-returns Inv-loop μ-loop
 returns c =
     let l = c .before .loop in
-    (l .inv .2, λ i h. l .inv .3 i (omega arith))
+    let all : l .i ≡ c .before .before .before .before .args .many = omega arith in
+    rw (← all) (l .inv .2)
 
 pub flag-samples-spec : {M : Type 1} → statement M
 flag-samples-spec =

@@ -1,32 +1,34 @@
 -- `masks::mask_rows` meets its contract. The rows passed have their masks. Assumes nothing.
-use mathlib.Core.Path.{_≡_, refl}
-use Prim.Native.Nat.{_*_, _-_, _≤_}
+use mathlib.Core.Path.{_≡_, refl, sym}
+use Prim.Native.Nat.{ℕ, _*_, _-_, _≤_}
 use native.Mathlib.Nat.{mul-zero, mul-one, mul-add}
 use native.Mathlib.Omega.{arith}
 use borrow.Author.Needs.{needs}
 use lib.ListN.{length, length-set}
+use lib.Seq.{sets}
 use Rattle.laws.proofs.Digits.{block-end}
-use Rattle.masks.specs.Flags.{MaskOf, RowsMasked}
-use Rattle.masks.proofs.Rows.{no-row, row-next}
+use Rattle.laws.proofs.Values.{sets-none, sets-more}
+use Rattle.masks.specs.Flags.{flagMask, gathered, rowMasks}
 use Rattle.masks.proofs.mask_rows.Statement.{statement}
 use Rattle.masks.proofs.mask_rows.Tie as tie
 
 abbrev Inv-loop : tie.InvT-loop
-Inv-loop flags nx from many masks₀ at₀ r₀ masks at r = (length masks ≡ length masks₀) × (r ≤ many) × (at ≡ nx * r) × RowsMasked flags nx from r masks₀ masks
+Inv-loop flags nx from many masks₀ at₀ r₀ masks at r = (length masks ≡ length masks₀) × (r ≤ many) × (at ≡ nx * r) × (masks ≡ sets masks₀ from (rowMasks flags nx r))
 
 abbrev μ-loop : tie.MeasureT-loop
 μ-loop flags nx from many masks₀ at₀ r₀ masks at r = many - r
 
 loop-holds : tie.Need-loop-holds Inv-loop μ-loop
+unfolding rowMasks
 loop-holds c =
     let a = c .before .args in
-    (refl, omega arith, omega (arith, mul-zero (a .nx)), no-row (a .nx) (c .before .pre .0 .0) (a .flags .now) (a .masks .now) (a .from))
+    (refl, omega arith, omega (arith, mul-zero (a .nx)), sym (sets-none _ (a .masks .now) (a .from)))
 
 row-mask-requires : tie.Need-row-mask-requires Inv-loop μ-loop
 row-mask-requires c κs =
     let a = c .before .before .before .args in
     let l = c .before .loop in
-    ((omega arith, omega (arith, block-end (a .nx) (l .r) (a .many) (omega arith))), c .before .before .before .pre .1 .1)
+    (omega (arith, block-end (a .nx) (l .r) (a .many) (omega arith)), c .before .before .before .pre .1 .1)
 
 add-masks : tie.Need-add-masks Inv-loop μ-loop
 add-masks c = search needs
@@ -50,14 +52,15 @@ loop-less : tie.Need-loop-less Inv-loop μ-loop
 loop-less c = search needs
 
 loop-again : tie.Need-loop-again Inv-loop μ-loop
+unfolding rowMasks
 loop-again c =
     let a = c .before .before .before .before .args in
     let l = c .before .before .loop in
-    let mask : MaskOf (a .flags .now) (a .nx * l .r) (a .nx) (c .row-mask .result) = rw (← (l .inv .2)) (c .row-mask .ensures) in (
+    let mask : ℕ → ℕ = λ r. flagMask (a .flags .now) (a .nx * r) (gathered (a .nx)) in (
       simp length-set (l .inv .0),
       omega arith,
       omega (arith, mul-add (a .nx) (l .r) 1, mul-one (a .nx)),
-      row-next (a .nx) (omega arith) (a .flags .now) (a .masks .now) (l .masks) (a .from) (l .r) (c .row-mask .result) (omega arith) mask (l .inv .3),
+      rw (l .inv .3, c .row-mask .ensures, l .inv .2) (sets-more (l .r) mask (a .masks .now) (a .from)),
     )
 
 same-length : tie.Need-same-length Inv-loop μ-loop

@@ -8,10 +8,9 @@ use denote.Ref.{now}
 use Rattle.laws.specs.Bits.{wordBits, halved}
 use Rattle.grid.specs.Limits.{mostRows, mostEdges}
 use Rattle.grid.specs.Grid.{axes, edgeCount}
-use Rattle.grid.proofs.Sides.{rows-most}
 use Rattle.rows.specs.Rows.{sizeOf, firstEdge}
 use Rattle.pointnumbers.specs.Numbers.{NumberedTo}
-use Rattle.rows.proofs.Bounds.{row-there, edges-few, sample-small, next-row}
+use Rattle.rows.proofs.Bounds.{row-few, edges-few, sample-small, next-row}
 use Rattle.rows.proofs.Cut.{row-passed, tested}
 use Rattle.rows.proofs.Busy.{Found, found, rest-uncut}
 use Rattle.pointnumbers.proofs.Numbering.{numbers-few, sample-passed, none-passed}
@@ -39,10 +38,8 @@ row-at-requires c κs =
     (s .pre .0 .rows, (s .pre .1 .0, s .pre .1 .1 .0))
 
 -- the row's place among the rows, and its first edge, are small
-row-few : (s : tie.Start Inv-loop μ-loop) → s .args .y + s .args .sides .ny * s .args .z < mostRows
-row-few s =
-    let a = s .args .sides in
-    omega (arith, row-there (a .ny) (a .nz) (s .args .y) (s .args .z) (s .pre .1 .0) (s .pre .1 .1 .0), rows-most (a .nx) (a .ny) (a .nz) (s .pre .0 .fit))
+row-small : (s : tie.Start Inv-loop μ-loop) → s .args .y + s .args .sides .ny * s .args .z < mostRows
+row-small s = row-few (s .args .sides) (s .pre .0 .fit) (s .args .y) (s .args .z) (s .pre .1 .0) (s .pre .1 .1 .0)
 
 first-few : (s : tie.Start Inv-loop μ-loop) → firstEdge (s .args .sides) (s .args .y) (s .args .z) < mostEdges
 first-few s =
@@ -53,10 +50,10 @@ first-few s =
     )
 
 mul-first : tie.Need-mul-first Inv-loop μ-loop
-mul-first c = omega (arith, row-few (c .before .before .before .before))
+mul-first c = omega (arith, row-small (c .before .before .before .before))
 
 add-first : tie.Need-add-first Inv-loop μ-loop
-add-first c = omega (arith, row-few (c .before .before .before .before))
+add-first c = omega (arith, row-small (c .before .before .before .before))
 
 mul-first-2 : tie.Need-mul-first-2 Inv-loop μ-loop
 mul-first-2 c = omega (arith, first-few (c .before .before .before .before .before))

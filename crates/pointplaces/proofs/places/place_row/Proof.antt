@@ -7,11 +7,11 @@ use lib.Count.{trailingZeros}
 use denote.Ref.{now}
 use Rattle.laws.specs.Bits.{wordBits, halved}
 use Rattle.grid.specs.Limits.{mostRows, mostSamples}
-use Rattle.grid.proofs.Sides.{rows-most, samples-most}
+use Rattle.grid.proofs.Sides.{samples-most}
 use Rattle.rows.specs.Rows.{firstEdge}
 use Rattle.edgepoints.specs.EdgePoint.{PointRooms, pointRooms}
 use Rattle.pointplaces.specs.Places.{countAll, Advanced}
-use Rattle.rows.proofs.Bounds.{row-there, sample-small, next-row}
+use Rattle.rows.proofs.Bounds.{row-few, sample-small, next-row}
 use Rattle.rows.proofs.Cut.{row-passed, Tested, tested}
 use Rattle.rows.proofs.Busy.{Found, found, rest-uncut}
 use Rattle.pointplaces.proofs.Placing.{SameLengths, room-kept, none-passed, advanced-none, advanced-on, sample-passed}
@@ -56,10 +56,8 @@ row-at-requires c κs =
     (s .pre .0 .ready .rows, (s .pre .1 .0, s .pre .1 .1 .0))
 
 -- the row's place among the rows, and its samples, are small
-row-few : (s : tie.Start Inv-loop μ-loop) → s .args .y + s .args .sides .ny * s .args .z < mostRows
-row-few s =
-    let a = s .args .sides in
-    omega (arith, row-there (a .ny) (a .nz) (s .args .y) (s .args .z) (s .pre .1 .0) (s .pre .1 .1 .0), rows-most (a .nx) (a .ny) (a .nz) (s .pre .0 .ready .fit))
+row-small : (s : tie.Start Inv-loop μ-loop) → s .args .y + s .args .sides .ny * s .args .z < mostRows
+row-small s = row-few (s .args .sides) (s .pre .0 .ready .fit) (s .args .y) (s .args .z) (s .pre .1 .0) (s .pre .1 .1 .0)
 
 sample-few : (s : tie.Start Inv-loop μ-loop) (x : ℕ) → x < s .args .sides .nx → sample-at s x < mostSamples
 sample-few s x h =
@@ -70,10 +68,10 @@ sample-few s x h =
     )
 
 mul-first : tie.Need-mul-first Inv-loop μ-loop
-mul-first c = omega (arith, row-few (c .before .before .before .before .before .before .before))
+mul-first c = omega (arith, row-small (c .before .before .before .before .before .before .before))
 
 add-first : tie.Need-add-first Inv-loop μ-loop
-add-first c = omega (arith, row-few (c .before .before .before .before .before .before .before))
+add-first c = omega (arith, row-small (c .before .before .before .before .before .before .before))
 
 mul-first-2 : tie.Need-mul-first-2 Inv-loop μ-loop
 mul-first-2 c =
