@@ -6,4 +6,5 @@ pub mod Same
 pub mod Points
 pub mod Edges
 pub mod Sound
+pub mod Named
 pub mod Empty

@@ -1,8 +1,8 @@
 -- What the extractor's parts rely on while it runs.
 use mathlib.Core.Path.{_≡_}
-use mathlib.Core.List.{List}
+use mathlib.Core.List.{List, [], _∷_}
 use mathlib.Core.Bool.{Bool, true}
-use Prim.Native.Nat.{ℕ, _≤_, _<_}
+use Prim.Native.Nat.{ℕ, _^_, _≤_, _<_}
 use lib.ListN.{length, getD}
 use Rattle.grid.specs.Limits.{leastSide, mostSide}
 use Rattle.grid.specs.Grid.{Size, axes, edgeCount, crossed}
@@ -24,3 +24,17 @@ pub record SidesFit (nx ny nz : ℕ) : Type 0 where
 pub record Numbered (n : Size) (above : ℕ → Bool) (work : List ℕ) : Type 0 where
   pub whole : length work ≡ edgeCount axes n
   pub ranks : (e : ℕ) → e < edgeCount axes n → crossed axes n above e ≡ true → getD work e 0 ≡ number axes n above e
+
+-- what a grid edge is called: where names are lent the name at its number, else its number
+unfoldable pub nameOf : List ℕ → ℕ → ℕ
+nameOf [] e = e
+nameOf (name ∷ names) e = getD (name ∷ names) e 0
+
+-- an edge can be called so: its number fits a name, and where names are lent there is one for it
+pub record Nameable (names : List ℕ) (e : ℕ) : Type 0 where
+  pub fits : e < 2 ^ 32
+  pub listed : (length names ≡ 0 → ⊥) → e < length names
+
+-- names for so many edges, or none at all
+abbrev pub NamesFit : ℕ → List ℕ → Type 0
+NamesFit many names = (length names ≡ 0 → ⊥) → many ≤ length names

@@ -48,6 +48,18 @@ sets-next room i xs j d l =
     sets-append room i (take j xs) (getD xs j d ∷ []) in
     rw (add-one j, take-suc xs j d l) (rw (length-take-le j xs (omega arith)) at s)
 
+-- three elements more
+pub sets-three : {A : Type 0} (room : List A) (i : ℕ) (xs : List A) (j : ℕ) (d : A) {now : List A} {a b c : A} → j + 2 < length xs
+    → now ≡ sets room i (take j xs) → a ≡ getD xs j d → b ≡ getD xs (j + 1) d → c ≡ getD xs (j + 2) d
+    → set (set (set now (i + j) a) (i + j + 1) b) (i + j + 2) c ≡ sets room i (take (j + 3) xs)
+sets-three room i xs j d l r p q s =
+    let second : i + j + 1 ≡ i + (j + 1) = omega arith in
+    let third : i + j + 2 ≡ i + (j + 1 + 1) = omega arith in
+    let two : j + 2 ≡ j + 1 + 1 = omega arith in
+    let three : j + 3 ≡ j + 1 + 1 + 1 = omega arith in
+    rw (r, p, q, s, second, third, two, three, sets-next room i xs j d (omega arith), sets-next room i xs (j + 1) d (omega arith))
+    (sets-next room i xs (j + 1 + 1) d (omega arith))
+
 -- what elements become, written where what others became ended: one place each, or as many as the width
 pub map-sets : {A B : Type 0} (g : A → B) (room : List B) (n next : ℕ) (xs ys : List A) → next ≡ n + length xs
     → sets (sets room n (map g xs)) next (map g ys) ≡ sets room n (map g (xs ++ ys))

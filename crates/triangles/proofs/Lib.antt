@@ -1,10 +1,10 @@
 -- What the functions' proofs cite: the cases of a row; a step of the walk and what it counts; the cubes of a row that are busy, and the
--- walk from one to the next; the count of the grid; the numbers that are written; the edges of a cube as grid edges; the mesh.
+-- walk from one to the next; the count of the grid; what is written; the edges of a cube as grid edges; the whole grid written.
 pub mod Cases
 pub mod Steps
 pub mod Busy
 pub mod Scanned
 pub mod Counted
-pub mod Numbers
+pub mod Names
 pub mod Edges
-pub mod Meshed
+pub mod Named

@@ -7,6 +7,7 @@ use Rattle.laws.specs.Bits.{halved}
 use Rattle.laws.specs.Mesh.{flat}
 use Rattle.cube.specs.Cube.{cornerX, cornerY, cornerZ, lowCorner, axisOf}
 use Rattle.cube.specs.Answer.{count, triangles}
+use Rattle.grid.specs.Work.{nameOf}
 use Rattle.triangles.specs.declared.RowMasks.{RowMasks}
 
 -- the masks of the four rows of samples around the cubes whose first corners are sample row r
@@ -46,15 +47,19 @@ edgeOffset nx ny e =
     let c = lowCorner e in
     3 * (cornerX c + nx * (cornerY c + ny * cornerZ c)) + axisOf e
 
--- what is written for a cube of case k whose first grid edge is `edge`: the numbers in `work` at the grid edges of the case's triangles
-unfoldable pub cubeNumbers : List ℕ → List ℕ → ℕ → ℕ → List ℕ
-cubeNumbers offsets work edge k = map (λ e. getD work (edge + getD offsets e 0) 0) (flat (triangles k))
+-- what the grid edge of cube edge e is called, where `edge` is the first grid edge of the cube's first corner
+abbrev pub cornerName : List ℕ → List ℕ → ℕ → ℕ → ℕ
+cornerName offsets names edge e = nameOf names (edge + getD offsets e 0)
+
+-- what is written for a cube of case k: what the grid edges of its triangles' corners are called
+unfoldable pub cubeNames : List ℕ → List ℕ → ℕ → ℕ → List ℕ
+cubeNames offsets names edge k = map (cornerName offsets names edge) (flat (triangles k))
 
 -- for a row of cubes, the next cube's first grid edge three on
-unfoldable pub rowNumbers : List ℕ → List ℕ → ℕ → RowMasks → ℕ → List ℕ
-rowNumbers offsets work cubes m edge = joinTo cubes (λ x. cubeNumbers offsets work (edge + 3 * x) (rowCase m x))
+abbrev pub rowNames : List ℕ → List ℕ → ℕ → RowMasks → ℕ → List ℕ
+rowNames offsets names cubes m edge = joinTo cubes (λ x. cubeNames offsets names (edge + 3 * x) (rowCase m x))
 
--- and for the rows of a layer; sample row r has 3 nx r grid edges before it
-unfoldable pub layerNumbers : List ℕ → List ℕ → ℕ → ℕ → ℕ → List ℕ → ℕ → List ℕ
-layerNumbers offsets work nx ny rows masks first =
-    joinTo rows (λ y. rowNumbers offsets work (nx - 1) (masksAt masks ny (first + y)) (3 * nx * (first + y)))
+-- and for the rows of a layer that starts at sample row `first` and at grid edge `edge`, the next row's first grid edge 3 nx on
+abbrev pub layerNames : List ℕ → List ℕ → ℕ → ℕ → ℕ → List ℕ → ℕ → ℕ → List ℕ
+layerNames offsets names nx ny rows masks first edge =
+    joinTo rows (λ y. rowNames offsets names (nx - 1) (masksAt masks ny (first + y)) (edge + 3 * nx * y))

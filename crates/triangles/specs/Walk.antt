@@ -7,12 +7,13 @@ use lib.ListN.{length, getD}
 use lib.Seq.{sets}
 use Rattle.laws.specs.Bits.{bit}
 use Rattle.cube.specs.Cube.{cubeEdgeCount, cases}
-use Rattle.cube.specs.Answer.{count}
+use Rattle.cube.specs.Answer.{count, caseLength}
 use Rattle.grid.specs.Limits.{leastSide, mostSide}
+use Rattle.grid.specs.Work.{Nameable}
 use Rattle.masks.specs.Masks.{AllSet}
 use Rattle.triangles.specs.declared.RowMasks.{RowMasks}
 use Rattle.triangles.specs.declared.Layer.{Layer}
-use Rattle.triangles.specs.Row.{rowCase, rowNumbers, layerNumbers}
+use Rattle.triangles.specs.Row.{rowCase, rowNames, layerNames}
 
 -- a word has a bit set only at cubes whose second samples are in the row, and of those cubes all that have a triangle
 pub record BusyCubes (row : RowMasks) (full busy : ℕ) : Type 0 where
@@ -29,22 +30,28 @@ pub record LayerFits (l : Layer) (masks : List ℕ) : Type 0 where
   pub rows : l .first + 2 * l .ny ≤ length masks
   pub above : AllSet (l .nx) (l .full)
 
--- To write, every edge of every cube has to be in `work`, and the room has to hold the numbers from `at` on.
-pub record CubeRoom (offsets work room : List ℕ) (case many edge at : ℕ) : Type 0 where
+-- a corner's edge is read from the table, and its grid edge can be called by its name
+pub record CornerFits (rows offsets names : List ℕ) (place edge : ℕ) : Type 0 where
+  pub inside : place < cases * caseLength
+  pub small : getD rows place 0 < cubeEdgeCount
+  pub named : Nameable names (edge + getD offsets (getD rows place 0) 0)
+
+-- To write, every edge of every cube has to be nameable, and the room has to hold what is written from `at` on.
+pub record CubeRoom (offsets names room : List ℕ) (case many edge at : ℕ) : Type 0 where
   pub small : case < cases
   pub corners : many ≡ 3 * count case
-  pub edges : (e : ℕ) → e < cubeEdgeCount → edge + getD offsets e 0 < length work
-  pub numbers : at + many ≤ length room
+  pub named : (e : ℕ) → e < cubeEdgeCount → Nameable names (edge + getD offsets e 0)
+  pub holds : at + many ≤ length room
 
-pub record RowRoom (offsets work room : List ℕ) (cubes : ℕ) (row : RowMasks) (edge at : ℕ) : Type 0 where
-  pub edges : (x e : ℕ) → x < cubes → e < cubeEdgeCount → edge + 3 * x + getD offsets e 0 < length work
-  pub numbers : at + length (rowNumbers offsets work cubes row edge) ≤ length room
+pub record RowRoom (offsets names room : List ℕ) (cubes : ℕ) (row : RowMasks) (edge at : ℕ) : Type 0 where
+  pub named : (x e : ℕ) → x < cubes → e < cubeEdgeCount → Nameable names (edge + 3 * x + getD offsets e 0)
+  pub holds : at + length (rowNames offsets names cubes row edge) ≤ length room
 
-pub record LayerRoom (offsets work room : List ℕ) (nx ny : ℕ) (masks : List ℕ) (first at : ℕ) : Type 0 where
-  pub edges : (x y e : ℕ) → x + 1 < nx → y + 1 < ny → e < cubeEdgeCount → 3 * nx * (first + y) + 3 * x + getD offsets e 0 < length work
-  pub numbers : at + length (layerNumbers offsets work nx ny (ny - 1) masks first) ≤ length room
+pub record LayerRoom (offsets names room : List ℕ) (nx ny : ℕ) (masks : List ℕ) (first edge at : ℕ) : Type 0 where
+  pub named : (x y e : ℕ) → x + 1 < nx → y + 1 < ny → e < cubeEdgeCount → Nameable names (edge + 3 * nx * y + 3 * x + getD offsets e 0)
+  pub holds : at + length (layerNames offsets names nx ny (ny - 1) masks first edge) ≤ length room
 
--- the numbers stand in the room from `at` on, and `next` is the place after them
-pub record Written (entry exit : List ℕ) (at : ℕ) (numbers : List ℕ) (next : ℕ) : Type 0 where
-  pub room : exit ≡ sets entry at numbers
-  pub end : next ≡ at + length numbers
+-- the list stands in the room from `at` on, and `next` is the place after it
+pub record Written (entry exit : List ℕ) (at : ℕ) (list : List ℕ) (next : ℕ) : Type 0 where
+  pub room : exit ≡ sets entry at list
+  pub end : next ≡ at + length list

@@ -2,7 +2,7 @@
 ghost use mathlib.Core.Path.{_≡_};
 ghost use mathlib.Core.List.{map};
 ghost use Prim.Native.Nat.{_+_, _*_, _-_, _≤_, _<_};
-ghost use lib.ListN.{length};
+ghost use lib.ListN.{length, getD};
 ghost use lib.Seq.{sets};
 ghost use Rattle.laws.specs.Bits.{wordBits};
 ghost use Rattle.laws.specs.Room.{laid};
@@ -10,11 +10,12 @@ ghost use Rattle.laws.specs.Mesh.{flat};
 ghost use Rattle.cube.specs.Cube.{cubeEdges};
 ghost use Rattle.cube.specs.Promise.{Rows, Counts};
 ghost use Rattle.grid.specs.Limits.{mostSide};
-ghost use Rattle.grid.specs.Mesh.{edgeMesh, mesh};
-ghost use Rattle.grid.specs.Work.{size, SidesFit, Numbered};
+ghost use Rattle.grid.specs.Grid.{axes, edgeCount};
+ghost use Rattle.grid.specs.Mesh.{edgeMesh};
+ghost use Rattle.grid.specs.Work.{size, SidesFit, nameOf, Nameable, NamesFit};
 ghost use Rattle.masks.specs.Masks.{maskAbove, AllSet};
-ghost use Rattle.triangles.specs.Row.{masksAt, masksAfter, masksPast, firstCase, rowCount, layerCount, edgeOffset, cubeNumbers, rowNumbers, layerNumbers};
-ghost use Rattle.triangles.specs.Walk.{BusyCubes, LayerFits, CubeRoom, RowRoom, LayerRoom, Written};
+ghost use Rattle.triangles.specs.Row.{masksAt, masksAfter, masksPast, firstCase, rowCount, layerCount, edgeOffset, cornerName, cubeNames, rowNames, layerNames};
+ghost use Rattle.triangles.specs.Walk.{BusyCubes, LayerFits, CornerFits, CubeRoom, RowRoom, LayerRoom, Written};
 use cube::CASE_LENGTH;
 use cube::CASES;
 use cube::TABLE;
@@ -166,11 +167,37 @@ fn edge_offsets(nx: usize, ny: usize) -> [usize; 12]
     [0, y, z, y + z, 1, 4, z + 1, z + 4, 2, 5, y + 2, y + 5]
 }
 
-// Writes the numbers of one cube's triangles; `many` is how many they are, and `edge` the first grid edge of the cube's first corner.
+// What a grid edge is called: where names are lent the name at its number, else its number.
+fn name(names: &[u32], edge: usize) -> u32
+    requires { ⌜ Nameable (now names) edge ⌝ }
+    ensures { λ r. ⌜ r ≡ nameOf (now (names .entry)) edge ⌝ }
+{
+    if names.len() == 0 {
+        return edge as u32;
+    }
+    names[edge]
+}
+
+// What the grid edge of one corner is called; the corner's cube edge stands in the table at `place`, and `edge` is the first grid edge of the cube's first corner.
+fn corner(
+    rows: &[u8; TABLE],
+    offsets: &[usize; 12],
+    names: &[u32],
+    place: usize,
+    edge: usize,
+) -> u32
+    requires { ⌜ CornerFits (now rows) (now offsets) (now names) place edge ⌝ }
+    ensures { λ r. ⌜ r ≡ cornerName (now (offsets .entry)) (now (names .entry)) edge (getD (now (rows .entry)) place 0) ⌝ }
+{
+    let e = rows[place] as usize;
+    name(names, edge + offsets[e])
+}
+
+// Writes one cube's triangles, a triangle a turn; `many` is how many corners they have.
 fn write_cube(
     rows: &[u8; TABLE],
     offsets: &[usize; 12],
-    work: &[u32],
+    names: &[u32],
     triangles: &mut [u32],
     case: usize,
     many: usize,
@@ -178,23 +205,30 @@ fn write_cube(
     at: usize,
 )
     requires { ⌜ Rows (now rows) ⌝ }
-    requires { ⌜ CubeRoom (now offsets) (now work) (now triangles) case many edge at ⌝ }
-    ensures { λ _. ⌜ now (triangles .exit) ≡ sets (now (triangles .entry)) at (cubeNumbers (now (offsets .entry)) (now (work .entry)) edge case) ⌝ }
+    requires { ⌜ CubeRoom (now offsets) (now names) (now triangles) case many edge at ⌝ }
+    ensures { λ _. ⌜ now (triangles .exit) ≡ sets (now (triangles .entry)) at (cubeNames (now (offsets .entry)) (now (names .entry)) edge case) ⌝ }
 {
     let from = CASE_LENGTH * case;
-    for j in 0..many {
-        let e = rows[from + j] as usize;
-        let place = edge + offsets[e];
-        triangles[at + j] = work[place];
+    let mut j = 0;
+    while j < many {
+        let place = from + j;
+        let to = at + j;
+        let a = corner(rows, offsets, names, place, edge);
+        let b = corner(rows, offsets, names, place + 1, edge);
+        let c = corner(rows, offsets, names, place + 2, edge);
+        triangles[to] = a;
+        triangles[to + 1] = b;
+        triangles[to + 2] = c;
+        j += 3;
     }
 }
 
-// Writes the numbers of a row of cubes, and answers where it stopped.
+// Writes the triangles of a row of cubes, and answers where it stopped.
 fn write_row(
     rows: &[u8; TABLE],
     counts: &[u8; CASES],
     offsets: &[usize; 12],
-    work: &[u32],
+    names: &[u32],
     triangles: &mut [u32],
     row: RowMasks,
     cubes: usize,
@@ -206,8 +240,8 @@ fn write_row(
     requires { ⌜ Counts (now counts) ⌝ }
     requires { ⌜ cubes < wordBits ⌝ }
     requires { ⌜ AllSet (cubes + 1) full ⌝ }
-    requires { ⌜ RowRoom (now offsets) (now work) (now triangles) cubes row edge at ⌝ }
-    ensures { λ r. ⌜ Written (now (triangles .entry)) (now (triangles .exit)) at (rowNumbers (now (offsets .entry)) (now (work .entry)) cubes row edge) r ⌝ }
+    requires { ⌜ RowRoom (now offsets) (now names) (now triangles) cubes row edge at ⌝ }
+    ensures { λ r. ⌜ Written (now (triangles .entry)) (now (triangles .exit)) at (rowNames (now (offsets .entry)) (now (names .entry)) cubes row edge) r ⌝ }
 {
     let mut busy = row.busy(full);
     let mut rest = row;
@@ -219,7 +253,7 @@ fn write_row(
         here += 3 * (skip as usize);
         let case = rest.case();
         let many = 3 * (counts[case] as usize);
-        write_cube(rows, offsets, work, triangles, case, many, here, to);
+        write_cube(rows, offsets, names, triangles, case, many, here, to);
         to += many;
         here += 3;
         rest = rest.next();
@@ -228,28 +262,29 @@ fn write_row(
     to
 }
 
-// Writes the numbers of a layer of cubes, and answers where it stopped.
+// Writes the triangles of a layer of cubes whose first grid edge is `edge`, and answers where it stopped.
 fn write_layer(
     rows: &[u8; TABLE],
     counts: &[u8; CASES],
     offsets: &[usize; 12],
     masks: &[u64],
-    work: &[u32],
+    names: &[u32],
     triangles: &mut [u32],
     layer: Layer,
+    edge: usize,
     at: usize,
 ) -> usize
     requires { ⌜ Rows (now rows) ⌝ }
     requires { ⌜ Counts (now counts) ⌝ }
     requires { ⌜ LayerFits layer (now masks) ⌝ }
-    requires { ⌜ LayerRoom (now offsets) (now work) (now triangles) (layer .nx) (layer .ny) (now masks) (layer .first) at ⌝ }
+    requires { ⌜ LayerRoom (now offsets) (now names) (now triangles) (layer .nx) (layer .ny) (now masks) (layer .first) edge at ⌝ }
     ensures { λ r.
-        let numbers = layerNumbers (now (offsets .entry)) (now (work .entry)) (layer .nx) (layer .ny) (layer .ny - 1) (now (masks .entry)) (layer .first) in
-        ⌜ Written (now (triangles .entry)) (now (triangles .exit)) at numbers r ⌝ }
+        let list = layerNames (now (offsets .entry)) (now (names .entry)) (layer .nx) (layer .ny) (layer .ny - 1) (now (masks .entry)) (layer .first) edge in
+        ⌜ Written (now (triangles .entry)) (now (triangles .exit)) at list r ⌝ }
 {
     let last = layer.ny - 1;
     let step = 3 * layer.nx;
-    let mut edge = step * layer.first;
+    let mut here = edge;
     let mut to = at;
     for y in 0..last {
         let row = masks_at(masks, layer.ny, layer.first + y);
@@ -257,33 +292,37 @@ fn write_layer(
             rows,
             counts,
             offsets,
-            work,
+            names,
             triangles,
             row,
             layer.nx - 1,
             layer.full,
-            edge,
+            here,
             to,
         );
-        edge += step;
+        here += step;
     }
     to
 }
 
-// Writes the triangles to the front of their room; `work` has the number of the point at each crossed edge.
-pub fn write(nx: usize, ny: usize, nz: usize, masks: &[u64], work: &[u32], triangles: &mut [u32])
+// Writes the triangles to the front of their room, each corner as its grid edge is called: `names` has a name for each grid edge, or none at all.
+pub fn write(nx: usize, ny: usize, nz: usize, masks: &[u64], names: &[u32], triangles: &mut [u32])
     requires { ⌜ SidesFit nx ny nz ⌝ }
     requires { ⌜ ny * nz ≤ length (now masks) ⌝ }
-    requires { ⌜ Numbered (size nx ny nz) (maskAbove nx (now masks)) (now work) ⌝ }
+    requires { ⌜ NamesFit (edgeCount axes (size nx ny nz)) (now names) ⌝ }
     requires { ⌜ 3 * length (edgeMesh (size nx ny nz) (maskAbove nx (now masks))) ≤ length (now triangles) ⌝ }
-    ensures { λ _. ⌜ now (triangles .exit) ≡ laid (flat (mesh (size nx ny nz) (maskAbove nx (now (masks .entry))))) (now (triangles .entry)) ⌝ }
+    ensures { λ _.
+        let corners = flat (edgeMesh (size nx ny nz) (maskAbove nx (now (masks .entry)))) in
+        ⌜ now (triangles .exit) ≡ laid (map (nameOf (now (names .entry))) corners) (now (triangles .entry)) ⌝ }
 {
     let rows = cube::rows();
     let counts = cube::counts();
     let offsets = edge_offsets(nx, ny);
     let full = masks::full_mask(nx);
     let last = nz - 1;
+    let step = 3 * nx * ny;
     let mut first = 0;
+    let mut edge = 0;
     let mut to = 0;
     for _ in 0..last {
         let layer = Layer {
@@ -292,7 +331,18 @@ pub fn write(nx: usize, ny: usize, nz: usize, masks: &[u64], work: &[u32], trian
             full,
             first,
         };
-        to = write_layer(&rows, &counts, &offsets, masks, work, triangles, layer, to);
+        to = write_layer(
+            &rows,
+            &counts,
+            &offsets,
+            masks,
+            names,
+            triangles,
+            layer,
+            edge,
+            to,
+        );
         first += ny;
+        edge += step;
     }
 }

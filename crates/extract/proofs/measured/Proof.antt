@@ -5,8 +5,12 @@ use Prim.Native.Nat.{_*_, _/_, _≤_, min}
 use mathlib.Core.Bool.{false}
 use lib.Dec.{ltb}
 use lib.ListN.{length, replicate, length-replicate}
+use Rattle.laws.specs.Room.{laid}
 use Rattle.grid.specs.Limits.{mostRows, mostPoints}
+use Rattle.grid.specs.Work.{size}
 use Rattle.grid.proofs.Sides.{rows-most}
+use Rattle.grid.proofs.Named.{mesh-named}
+use Rattle.masks.specs.Masks.{maskAbove}
 use Rattle.extract.specs.Extraction.{Rooms}
 use Rattle.extract.specs.Promise.{rooms}
 use Rattle.extract.proofs.Ways.{too-many-points, too-many-triangles, all-granted, rooms-hold, triangles-hold}
@@ -195,7 +199,7 @@ write-requires c κs =
       (
         rows-masked f,
         (
-          n .number .ensures .1,
+          λ some. omega (arith, n .number .ensures .1 .whole),
           triangles-hold (a .nx) (a .ny) (a .nz) (a .grey) (a .samples .now) (f .fill .last .1 .1 .1 .1 .0) (s .pre .0) (f .fill .ensures)
               (made .before .count .result) (length (a .triangles .now)) (made .before .count .ensures) (sym (made .exceeds2 .ensures) ∙ else .if2 .left),
         ),
@@ -247,7 +251,9 @@ returns-3 c =
     (place .place .ensures .0)
     (place .place .ensures .1 .0)
     (place .place .ensures .1 .1)
-    (write .write .ensures)
+    (write .write .ensures
+    ∙ ap (λ xs. laid xs (a .triangles .now))
+    (mesh-named (size (a .nx) (a .ny) (a .nz)) (maskAbove (a .nx) (f .fill .last .1 .1 .1 .1 .0)) (n .number .last .1 .1 .1 .1 .0) (n .number .ensures .1)))
     (clear .clear .ensures ∙ ap (λ k. replicate k 0) (work-kept n))
 
 pub measured-spec : {M : Type 1} → statement M

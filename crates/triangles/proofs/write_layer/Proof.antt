@@ -1,25 +1,26 @@
--- `triangles::write_layer` meets its contract. The loop's invariant: `edge` is the next row's first grid edge, and the numbers of the rows passed are
--- written. Assumes nothing.
-use mathlib.Core.Path.{_≡_, ap}
-use Prim.Native.Nat.{_+_, _*_, _-_, _≤_}
+-- `triangles::write_layer` meets its contract. The loop's invariant: `here` is the next row's first grid edge, and the rows passed are written. Assumes nothing.
+use mathlib.Core.Path.{_≡_, ap₂, subst⁻¹}
+use mathlib.Core.List.{List}
+use Prim.Native.Nat.{ℕ, _+_, _*_, _-_, _≤_}
 use native.Mathlib.Nat.{mul-add}
 use native.Mathlib.Omega.{arith}
-use Rattle.triangles.specs.Row.{layerNumbers}
-use Rattle.triangles.specs.Walk.{Written}
+use lib.ListN.{getD}
+use Rattle.grid.specs.Work.{Nameable}
+use Rattle.triangles.specs.Row.{masksAt, rowNames, layerNames}
+use Rattle.triangles.specs.Walk.{RowRoom, Written}
 use Rattle.triangles.proofs.Steps.{above-row}
-use Rattle.triangles.proofs.Numbers.{written-nothing, written-length, layer-first, row-room, layer-next}
+use Rattle.triangles.proofs.Names.{written-none, written-more, written-room, written-length}
 use Rattle.triangles.proofs.write_layer.Statement.{statement}
 use Rattle.triangles.proofs.write_layer.Tie as tie
 
 abbrev Inv-loop : tie.InvT-loop
-Inv-loop rows counts offsets masks work triangles₀ layer at last step edge₀ to₀ y₀ triangles edge to y =
+Inv-loop rows counts offsets masks names triangles₀ layer edge at last step here₀ to₀ y₀ triangles here to y =
     (y ≤ layer .ny - 1)
-    × (edge ≡ 3 * layer .nx * (layer .first + y))
-    × Written triangles₀ triangles at (layerNumbers offsets work (layer .nx) (layer .ny) y masks (layer .first)) to
+    × (here ≡ edge + 3 * layer .nx * y)
+    × Written triangles₀ triangles at (layerNames offsets names (layer .nx) (layer .ny) y masks (layer .first) edge) to
 
 abbrev μ-loop : tie.MeasureT-loop
-μ-loop rows counts offsets masks work triangles₀ layer at last step edge₀ to₀ y₀ triangles edge to y =
-    layer .ny - 1 - y
+μ-loop rows counts offsets masks names triangles₀ layer edge at last step here₀ to₀ y₀ triangles here to y = layer .ny - 1 - y
 
 sub-last : tie.Need-sub-last Inv-loop μ-loop
 sub-last c = omega (arith, c .before .before .before .before .pre .1 .1 .0)
@@ -27,25 +28,18 @@ sub-last c = omega (arith, c .before .before .before .before .pre .1 .1 .0)
 mul-step : tie.Need-mul-step Inv-loop μ-loop
 mul-step c = omega (arith, c .before .before .before .before .before .pre .1 .1 .0)
 
-mul-edge : tie.Need-mul-edge Inv-loop μ-loop
-mul-edge c =
-    let start = c .before .before .before .before .before .before in
-    let fits = start .pre .1 .1 .0 in
-    let layer = start .args .layer in
-    omega (arith, fits, mul-add (3 * layer .nx) (layer .first) 0, start .pre .1 .1 .1 .edges 0 0 0 (omega (arith, fits)) (omega (arith, fits)) (omega arith), start)
-
 loop-holds : tie.Need-loop-holds Inv-loop μ-loop
-loop-holds c =
-    let a = c .before .before .before .before .before .before .args in (
-      omega arith,
-      ap (λ r. 3 * a .layer .nx * r) (omega arith),
-      written-nothing (a .triangles .now) (a .at) _
-          (layer-first (a .offsets .now) (a .work .now) (a .layer .nx) (a .layer .ny) (a .masks .now) (a .layer .first)),
-    )
+loop-holds c = (omega arith, omega arith, written-none _ _ _)
 
 -- from a turn back to the function's entry
 abbrev begun : tie.In-loop Inv-loop μ-loop → tie.Start Inv-loop μ-loop
-begun c = c .before .before .before .before .before .before .before .before
+begun c = c .before .before .before .before .before .before .before
+
+-- what is written for each row of the layer
+abbrev rowOf : tie.Start Inv-loop μ-loop → ℕ → List ℕ
+rowOf s y =
+    let a = s .args in
+    rowNames (a .offsets .now) (a .names .now) (a .layer .nx - 1) (masksAt (a .masks .now) (a .layer .ny) (a .layer .first + y)) (a .edge + 3 * a .layer .nx * y)
 
 add-masks-at : tie.Need-add-masks-at Inv-loop μ-loop
 add-masks-at c = omega (arith, begun (c .before) .pre .1 .1 .0)
@@ -56,76 +50,72 @@ masks-at-requires c κs = omega (arith, begun (c .before) .pre .1 .1 .0)
 sub-write-row : tie.Need-sub-write-row Inv-loop μ-loop
 sub-write-row c = omega (arith, begun (c .before .before .before .before) .pre .1 .1 .0)
 
-write-row-requires : tie.Need-write-row-requires Inv-loop μ-loop
-write-row-requires c κs =
-    let here = c .before .before .before .before in
-    let pre = begun here .pre in
+-- the call's first grid edge and its row are the layer's
+place-is : (c : tie.In-loop Inv-loop μ-loop) → c .before .loop .here ≡ begun c .args .edge + 3 * begun c .args .layer .nx * c .before .loop .y
+place-is c = c .before .loop .inv .1
+
+row-is : (c : tie.After-masks-at Inv-loop μ-loop)
+    → let here = c .before .before in
+    let s = begun here in
+    rowNames (s .args .offsets .now) (s .args .names .now) (s .args .layer .nx - 1) (c .masks-at .result) (here .before .loop .here) ≡ rowOf s (here .before .loop .y)
+row-is c = ap₂ (rowNames _ _ _) (c .masks-at .ensures) (place-is (c .before .before))
+
+room-here : (c : tie.After-masks-at Inv-loop μ-loop)
+    → let here = c .before .before in
     let a = begun here .args in
     let l = here .before .loop in
-    let row = c .before .before .masks-at in (
-      pre .0,
-      (
-        pre .1 .0,
-        (
-          omega (arith, pre .1 .1 .0),
-          (
-            above-row _ _ (pre .1 .1 .0),
-            row-room (a .offsets .now) (a .work .now) (a .layer .nx) (a .layer .ny) (a .masks .now) (a .layer .first) (a .triangles .now) (l .triangles) (a .at)
-                (l .to)
-                (l .y)
-                (l .edge)
-                (row .result)
-                (l .inv .2)
-                (row .ensures)
-                (l .inv .1)
-                (pre .1 .1 .1)
-                (omega (arith, here)),
-          ),
-        ),
-      ),
-    )
+    RowRoom (a .offsets .now) (a .names .now) (l .triangles) (a .layer .nx - 1) (c .masks-at .result) (l .here) (l .to)
+room-here c =
+    let here = c .before .before in
+    let s = begun here in
+    let a = s .args in
+    let l = here .before .loop in
+    let room = s .pre .1 .1 .1 in
+    record {
+      named = λ x e h k.
+          subst⁻¹ (λ p. Nameable (a .names .now) (p + 3 * x + getD (a .offsets .now) e 0)) (place-is here) (room .named x (l .y) e (omega arith) (omega (arith, here)) k);
+      holds = rw (row-is c) (written-room (rowOf s) (l .y) (l .inv .2) (s .args .layer .ny - 1) (omega (arith, here)) (room .holds));
+    }
 
-add-edge : tie.Need-add-edge Inv-loop μ-loop
-add-edge c =
-    let here = c .before .before .before .before .before .before .before in
+write-row-requires : tie.Need-write-row-requires Inv-loop μ-loop
+write-row-requires c κs =
+    let pre = begun (c .before .before .before .before) .pre in
+    (pre .0, (pre .1 .0, (omega (arith, pre .1 .1 .0), (above-row _ _ (pre .1 .1 .0), room-here (c .before .before)))))
+
+-- from a turn's end back to its start
+abbrev turned : tie.After-slice-known2 Inv-loop μ-loop → tie.In-loop Inv-loop μ-loop
+turned c = c .before .before .before .before .before .before .before
+
+add-here : tie.Need-add-here Inv-loop μ-loop
+add-here c =
+    let here = turned c in
     let pre = begun here .pre in
     let fits = pre .1 .1 .0 in
     let l = here .before .loop in
-    omega (arith, pre .1 .1 .1 .edges 0 (l .y) 0 (omega (arith, fits)) (omega (arith, here)) (omega arith), l .inv .1, fits, begun here)
+    omega (arith, pre .1 .1 .1 .named 0 (l .y) 0 (omega (arith, fits)) (omega (arith, here)) (omega arith) .fits, place-is here, fits)
 
 add-y : tie.Need-add-y Inv-loop μ-loop
-add-y c = omega (arith, begun (c .before .before .before .before .before .before .before) .pre .1 .1 .0)
+add-y c = omega (arith, begun (turned c) .pre .1 .1 .0)
 
 loop-less : tie.Need-loop-less Inv-loop μ-loop
-loop-less c = omega (arith, c .before .before .before .before .before .before .before)
+loop-less c = omega (arith, turned c)
 
 loop-again : tie.Need-loop-again Inv-loop μ-loop
 loop-again c =
-    let here = c .before .before .before .before .before .before .before in
-    let a = begun here .args in
-    let l = here .before .loop in
-    let row = c .before .before .before .before .before .masks-at in
-    let next : a .layer .first + (l .y + 1) ≡ a .layer .first + l .y + 1 = omega arith in (
+    let here = turned c in
+    let s = begun here in
+    let l = here .before .loop in (
       omega (arith, here),
-      rw next (omega (arith, l .inv .1, mul-add (3 * a .layer .nx) (a .layer .first + l .y) 1)),
-      layer-next (a .offsets .now) (a .work .now) (a .layer .nx) (a .layer .ny) (a .masks .now) (a .layer .first) (a .triangles .now) (l .triangles) (a .at) (l .to)
-          (l .y)
-          (l .edge)
-          (row .result)
-          (l .inv .2)
-          (row .ensures)
-          (l .inv .1)
-          _
-          _
-          (c .before .before .write-row .ensures),
+      omega (arith, place-is here, mul-add (3 * s .args .layer .nx) (l .y) 1),
+      written-more (rowOf s) (l .y) (l .inv .2) (rw (row-is (c .before .before .before .before .before)) at (c .before .before .write-row .ensures)),
     )
 
 same-length : tie.Need-same-length Inv-loop μ-loop
-same-length c = written-length _ _ _ _ _ (c .before .loop .inv .2)
+same-length c = written-length (c .before .loop .inv .2)
 
 returns : tie.Need-returns Inv-loop μ-loop
 returns c =
-    let e : c .before .loop .y ≡ c .before .before .before .before .before .before .before .before .args .layer .ny - 1 = omega arith in
+    let e : c .before .loop .y ≡ c .before .before .before .before .before .before .before .args .layer .ny - 1 = omega arith in
     rw (← e) (c .before .loop .inv .2)
 
 pub write-layer-spec : {M : Type 1} → statement M
@@ -136,13 +126,12 @@ write-layer-spec =
     μ-loop
     sub-last
     mul-step
-    mul-edge
     loop-holds
     add-masks-at
     masks-at-requires
     sub-write-row
     write-row-requires
-    add-edge
+    add-here
     add-y
     loop-less
     loop-again

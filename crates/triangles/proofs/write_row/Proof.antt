@@ -1,44 +1,40 @@
--- `triangles::write_row` meets its contract. The loop's invariant: some cubes are passed, `here` is the first grid edge of the next, and the numbers of
--- those passed are written. Assumes nothing.
-use mathlib.Core.Path.{_≡_, ap, _∙_}
-use Prim.Native.Nat.{ℕ, _+_, _*_, _<_, _≤_}
+-- `triangles::write_row` meets its contract. The loop's invariant: some cubes are passed, `here` is the first grid edge of the next, and those passed are
+-- written. Assumes nothing.
+use mathlib.Core.Path.{_≡_, ap, ap₂, _∙_}
+use mathlib.Core.List.{List}
+use Prim.Native.Nat.{ℕ, _+_, _*_, _^_, _<_, _≤_}
 use native.Mathlib.Omega.{arith}
 use borrow.Author.Needs.{needs}
 use lib.Count.{trailingZeros}
-use lib.ListN.{length, getD}
+use lib.ListN.{getD}
+use lib.Seq.{sets}
 use Rattle.laws.specs.Bits.{wordBits}
 use Rattle.cube.specs.Answer.{mostCaseTriangles, count}
 use Rattle.cube.specs.Cube.{cases}
-use Rattle.triangles.specs.Row.{rowCase, rowNumbers}
+use Rattle.triangles.specs.Row.{rowCase, cubeNames, rowNames}
 use Rattle.triangles.specs.Walk.{CubeRoom, Written}
 use Rattle.triangles.proofs.Cases.{row-case-small, count-most}
 use Rattle.triangles.proofs.Steps.{case-held, count-read}
 use Rattle.triangles.proofs.Scanned.{Passed, passed-none, quiet-after, Found, found}
-use Rattle.triangles.proofs.Numbers.{written-nothing, written-length, row-first, row-quiet, cube-room, row-next}
+use Rattle.triangles.proofs.Names.{length-cube, cube-quiet, written-none, written-more, written-quiet, written-room, written-length}
 use Rattle.triangles.proofs.write_row.Statement.{statement}
 use Rattle.triangles.proofs.write_row.Tie as tie
 
 abbrev Inv-loop : tie.InvT-loop
-Inv-loop rows counts offsets work triangles₀ cubes full edge at busy₀ rest₀ here₀ to₀ triangles busy rest here to =
+Inv-loop rows counts offsets names triangles₀ cubes full edge at busy₀ rest₀ here₀ to₀ triangles busy rest here to =
     (x : ℕ)
     × Passed rest₀ cubes busy₀ rest busy x
     × (here ≡ edge + 3 * x)
-    × Written triangles₀ triangles at (rowNumbers offsets work x rest₀ edge) to
+    × Written triangles₀ triangles at (rowNames offsets names x rest₀ edge) to
 
 abbrev μ-loop : tie.MeasureT-loop
-μ-loop rows counts offsets work triangles₀ cubes full edge at busy₀ rest₀ here₀ to₀ triangles busy rest here to = busy
+μ-loop rows counts offsets names triangles₀ cubes full edge at busy₀ rest₀ here₀ to₀ triangles busy rest here to = busy
 
 busy-requires : tie.Need-busy-requires Inv-loop μ-loop
 busy-requires c κs = search needs
 
 loop-holds : tie.Need-loop-holds Inv-loop μ-loop
-loop-holds c =
-    let a = c .before .before .before .args in (
-      0,
-      passed-none _ _ _ (omega (arith, c .busy .ok)),
-      omega arith,
-      written-nothing (a .triangles .now) (a .at) _ (row-first (a .offsets .now) (a .work .now) (a .row) (a .edge)),
-    )
+loop-holds c = (0, passed-none _ _ _ (omega (arith, c .busy .ok)), omega arith, written-none _ _ _)
 
 -- in a turn: how far on the next busy cube is, and which it is
 abbrev begun : tie.In-loop Inv-loop μ-loop → tie.Start Inv-loop μ-loop
@@ -58,21 +54,24 @@ found-here c =
     let l = c .before .loop in
     found _ _ _ _ (begun c .pre .1 .1 .1 .0) (c .before .before .busy .ensures) (l .rest) (l .busy) (l .inv .0) (l .inv .1) (c .loop-test .taken)
 
--- its first grid edge, and the room after the cubes before it
+-- its first grid edge
 place-is : (c : tie.In-loop Inv-loop μ-loop) → c .before .loop .here + 3 * skip c ≡ begun c .args .edge + 3 * cubeHere c
 place-is c = omega (arith, c .before .loop .inv .2)
 
-place-small : (c : tie.In-loop Inv-loop μ-loop) → c .before .loop .here + 3 * skip c < length (begun c .args .work .now)
-place-small c = omega (arith, place-is c, begun c .pre .1 .1 .1 .1 .edges (cubeHere c) 0 (found-here c .inside) (omega arith))
+place-small : (c : tie.In-loop Inv-loop μ-loop) → c .before .loop .here + 3 * skip c < 2 ^ 32
+place-small c = omega (arith, place-is c, begun c .pre .1 .1 .1 .1 .named (cubeHere c) 0 (found-here c .inside) (omega arith) .fits)
+
+-- what is written for each cube of the row, and that it is written for those before this one
+abbrev cubeOf : tie.Start Inv-loop μ-loop → ℕ → List ℕ
+cubeOf s x = cubeNames (s .args .offsets .now) (s .args .names .now) (s .args .edge + 3 * x) (rowCase (s .args .row) x)
 
 written-here : (c : tie.In-loop Inv-loop μ-loop)
     → let a = begun c .args in
     let l = c .before .loop in
-    Written (a .triangles .now) (l .triangles) (a .at) (rowNumbers (a .offsets .now) (a .work .now) (cubeHere c) (a .row) (a .edge)) (l .to)
+    Written (a .triangles .now) (l .triangles) (a .at) (rowNames (a .offsets .now) (a .names .now) (cubeHere c) (a .row) (a .edge)) (l .to)
 written-here c =
-    let a = begun c .args in
     let l = c .before .loop in
-    rw (row-quiet (a .offsets .now) (a .work .now) (a .row) (a .edge) (l .inv .0) (cubeHere c) (omega arith) (found-here c .quiet)) (l .inv .3)
+    written-quiet (cubeOf (begun c)) (l .inv .0) (l .inv .3) (cubeHere c) (omega arith) (λ i h k. cube-quiet _ _ _ _ (found-here c .quiet i h k))
 
 after-requires : tie.Need-after-requires Inv-loop μ-loop
 after-requires c κs = found-here c .small
@@ -120,21 +119,33 @@ room-here : (c : tie.After-case Inv-loop μ-loop)
     → let here = c .before .before in
     let a = begun here .args in
     let l = here .before .loop in
-    CubeRoom (a .offsets .now) (a .work .now) (l .triangles) (c .case .result) (3 * countHere c) (l .here + 3 * skip here) (l .to)
+    CubeRoom (a .offsets .now) (a .names .now) (l .triangles) (c .case .result) (3 * countHere c) (l .here + 3 * skip here) (l .to)
 room-here c =
     let here = c .before .before in
-    let a = begun here .args in
-    let l = here .before .loop in
-    cube-room (a .offsets .now) (a .work .now) (a .row) (a .edge) (a .triangles .now) (l .triangles) (a .at) (l .to) (cubeHere here) (c .case .result)
-    (l .here + 3 * skip here)
-    (3 * countHere c)
-    (written-here here)
-    (case-is c)
-    (place-is here)
-    (ap (λ n. 3 * n) (count-is c))
-    (a .cubes)
-    (begun here .pre .1 .1 .1 .1)
-    (found-here here .inside)
+    let s = begun here in
+    let a = s .args in
+    let room = s .pre .1 .1 .1 .1 in
+    let inside = found-here here .inside in
+    record {
+      small = case-small c;
+      corners = ap (λ n. 3 * n) (count-is c);
+      named = λ e h. rw (place-is here) (room .named (cubeHere here) e inside h);
+      holds =
+          omega (
+            arith,
+            written-room (cubeOf s) (cubeHere here) (written-here here) (a .cubes) inside (room .holds),
+            length-cube (a .offsets .now) (a .names .now) (a .edge + 3 * cubeHere here) (rowCase (a .row) (cubeHere here)),
+            count-is c,
+            ap count (case-is c),
+          );
+    }
+
+-- what the cube's call leaves is its list
+cube-written : (c : tie.After-case Inv-loop μ-loop)
+    → let here = c .before .before in
+    let s = begun here in
+    cubeNames (s .args .offsets .now) (s .args .names .now) (here .before .loop .here + 3 * skip here) (c .case .result) ≡ cubeOf s (cubeHere here)
+cube-written c = ap₂ (cubeNames _ _) (place-is (c .before .before)) (case-is c)
 
 write-cube-requires : tie.Need-write-cube-requires Inv-loop μ-loop
 write-cube-requires c κs = (begun (c .before .before .before .before) .pre .0, room-here (c .before .before))
@@ -143,7 +154,7 @@ add-to : tie.Need-add-to Inv-loop μ-loop
 add-to c =
     let read = c .before .before .before .before .before in
     let here = read .before .before in
-    omega (arith, room-here read .numbers, written-length _ _ _ _ _ (here .before .loop .inv .3), begun here)
+    omega (arith, room-here read .holds, written-length (here .before .loop .inv .3), begun here)
 
 add-here-2 : tie.Need-add-here-2 Inv-loop μ-loop
 add-here-2 c =
@@ -170,32 +181,33 @@ loop-again : tie.Need-loop-again Inv-loop μ-loop
 loop-again c =
     let read = c .before .before .before .before .before .before in
     let here = turned c in
-    let a = begun here .args in
-    let l = here .before .loop in (
+    let s = begun here in
+    let a = s .args in (
       cubeHere here + 1,
       found-here here .next _ _ (read .before .after .ensures) (c .next .ensures),
       omega (arith, place-is here),
-      row-next (a .offsets .now) (a .work .now) (a .row) (a .edge) (a .triangles .now) (l .triangles) (a .at) (l .to) (cubeHere here) (read .case .result)
-          (l .here + 3 * skip here)
-          (3 * countHere read)
-          (written-here here)
-          (case-is read)
-          (place-is here)
-          (ap (λ n. 3 * n) (count-is read))
-          _
-          (c .before .before .before .write-cube .ensures),
+      written-more (cubeOf s) (cubeHere here) (written-here here)
+          (record {
+            room = c .before .before .before .write-cube .ensures ∙ ap (sets _ _) (cube-written read);
+            end =
+                omega (
+                  arith,
+                  length-cube (a .offsets .now) (a .names .now) (a .edge + 3 * cubeHere here) (rowCase (a .row) (cubeHere here)),
+                  count-is read,
+                  ap count (case-is read),
+                );
+          }),
     )
 
 same-length : tie.Need-same-length Inv-loop μ-loop
-same-length c = written-length _ _ _ _ _ (c .before .loop .inv .3)
+same-length c = written-length (c .before .loop .inv .3)
 
 returns : tie.Need-returns Inv-loop μ-loop
 returns c =
-    let start = c .before .before .before .before .before in
-    let a = start .args in
+    let s = c .before .before .before .before .before in
     let l = c .before .loop in
-    let none = quiet-after _ _ _ _ (start .pre .1 .1 .1 .0) (c .before .before .busy .ensures) (l .rest) (l .busy) (l .inv .0) (l .inv .1) (c .loop-test .left) in
-    rw (row-quiet (a .offsets .now) (a .work .now) (a .row) (a .edge) (l .inv .0) (a .cubes) (l .inv .1 .within) none) (l .inv .3)
+    let none = quiet-after _ _ _ _ (s .pre .1 .1 .1 .0) (c .before .before .busy .ensures) (l .rest) (l .busy) (l .inv .0) (l .inv .1) (c .loop-test .left) in
+    written-quiet (cubeOf s) (l .inv .0) (l .inv .3) (s .args .cubes) (l .inv .1 .within) (λ i h k. cube-quiet _ _ _ _ (none i h k))
 
 pub write-row-spec : {M : Type 1} → statement M
 write-row-spec =
