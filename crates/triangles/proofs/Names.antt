@@ -44,9 +44,9 @@ module _ (offsets names : List ℕ) (edge k : ℕ) where
         rw edge-read (all-get (CrossedEdge k) (flat (triangles k)) j 0 (corners-crossed k h) (omega (arith, length-corners (triangles k))) .small) in
         record { inside = omega (arith, count-most k h); small = small; named = named (getD rows place 0) small }
 
-    pub corner-is : cornerName offsets names edge (getD rows place 0) ≡ getD (cubeNames offsets names edge k) j 0
+    pub corner-is : {name : ℕ} → name ≡ cornerName offsets names edge (getD rows place 0) → name ≡ getD (cubeNames offsets names edge k) j 0
     unfolding cubeNames count
-    corner-is = rw edge-read (sym (map-at (cornerName offsets names edge) (flat (triangles k)) j 0 0 (omega (arith, length-corners (triangles k)))))
+    corner-is e = rw (e, edge-read) (sym (map-at (cornerName offsets names edge) (flat (triangles k)) j 0 0 (omega (arith, length-corners (triangles k)))))
 
 -- lists written one after the other: none yet, one more, some that are empty, and the room that is left for the next
 module _ (f : ℕ → List ℕ) where

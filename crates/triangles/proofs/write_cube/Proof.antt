@@ -35,22 +35,23 @@ j c = c .before .loop .j
 turn : (c : tie.In-loop Inv-loop μ-loop) → j c + 2 < 3 * count (begun c .args .case)
 turn c = omega (arith, begun c .pre .1 .corners, c .before .loop .inv .1)
 
-module _ (c : tie.In-loop Inv-loop μ-loop) (i place : ℕ) (l : i < 3) (at : place ≡ caseLength * begun c .args .case + (j c + i)) where
+module _ (c : tie.In-loop Inv-loop μ-loop) (p place : ℕ) (l : p < j c + 3) (at : place ≡ caseLength * begun c .args .case + p) where
   corner-there : let a = begun c .args in CornerFits (a .rows .now) (a .offsets .now) (a .names .now) place (a .edge)
   corner-there =
       let s = begun c in
-      corner-fits _ _ _ (s .args .case) _ (s .pre .0) (j c + i) place (s .pre .1 .small) (omega (arith, turn c)) at (s .pre .1 .named)
+      corner-fits _ _ _ (s .args .case) _ (s .pre .0) p place (s .pre .1 .small) (omega (arith, turn c)) at (s .pre .1 .named)
 
-  corner-here : let a = begun c .args in
-      cornerName (a .offsets .now) (a .names .now) (a .edge) (getD (a .rows .now) place 0)
-      ≡ getD (cubeNames (a .offsets .now) (a .names .now) (a .edge) (a .case)) (j c + i) 0
-  corner-here =
+  corner-here : {name : ℕ}
+      → let a = begun c .args in
+      name ≡ cornerName (a .offsets .now) (a .names .now) (a .edge) (getD (a .rows .now) place 0)
+      → name ≡ getD (cubeNames (a .offsets .now) (a .names .now) (a .edge) (a .case)) p 0
+  corner-here e =
       let s = begun c in
-      corner-is _ _ _ (s .args .case) _ (s .pre .0) (j c + i) place (s .pre .1 .small) (omega (arith, turn c)) at
+      corner-is _ _ _ (s .args .case) _ (s .pre .0) p place (s .pre .1 .small) (omega (arith, turn c)) at e
 
 -- the last of them is inside the table and the room
 last-read : (c : tie.In-loop Inv-loop μ-loop) → caseLength * begun c .args .case + (j c + 2) < 2 ^ 32
-last-read c = omega (arith, corner-there c 2 _ (omega arith) refl .inside)
+last-read c = omega (arith, corner-there c (j c + 2) _ (omega arith) refl .inside)
 
 kept : (c : tie.In-loop Inv-loop μ-loop) → length (c .before .loop .triangles) ≡ length (begun c .args .triangles .now)
 kept c = ap length (c .before .loop .inv .3) ∙ simp length-sets
@@ -65,19 +66,19 @@ add-to : tie.Need-add-to Inv-loop μ-loop
 add-to c = omega (arith, turn c, begun c .pre .1)
 
 corner-requires : tie.Need-corner-requires Inv-loop μ-loop
-corner-requires c κs = corner-there c 0 _ (omega arith) (omega arith)
+corner-requires c κs = corner-there c (j c) _ (omega arith) (omega arith)
 
 add-corner : tie.Need-add-corner Inv-loop μ-loop
 add-corner c = omega (arith, last-read (c .before))
 
 corner-requires-2 : tie.Need-corner-requires-2 Inv-loop μ-loop
-corner-requires-2 c κs = corner-there (c .before) 1 _ (omega arith) (omega arith)
+corner-requires-2 c κs = corner-there (c .before) (j (c .before) + 1) _ (omega arith) (omega arith)
 
 add-corner-2 : tie.Need-add-corner-2 Inv-loop μ-loop
 add-corner-2 c = omega (arith, last-read (c .before .before))
 
 corner-requires-3 : tie.Need-corner-requires-3 Inv-loop μ-loop
-corner-requires-3 c κs = corner-there (c .before .before) 2 _ (omega arith) (omega arith)
+corner-requires-3 c κs = corner-there (c .before .before) (j (c .before .before) + 2) _ (omega arith) (omega arith)
 
 mul-triangles : tie.Need-mul-triangles Inv-loop μ-loop
 mul-triangles c = omega (arith, turn (c .before .before .before), begun (c .before .before .before))
@@ -114,16 +115,15 @@ loop-again c =
     let here = c .before .before .before in
     let a = begun here .args in
     let l = here .before .loop in
-    let list = cubeNames (a .offsets .now) (a .names .now) (a .edge) (a .case) in
-    let first : j here + 0 ≡ j here = omega arith in (
+    let list = cubeNames (a .offsets .now) (a .names .now) (a .edge) (a .case) in (
       l .inv .0 + 1,
       omega (arith, l .inv .1),
       omega (arith, turn here, begun here .pre .1 .corners),
       sets-three (a .triangles .now) (a .at) list (j here) 0 (omega (arith, turn here, length-cube (a .offsets .now) (a .names .now) (a .edge) (a .case)))
           (l .inv .3)
-          (c .before .before .corner .ensures ∙ corner-here here 0 _ (omega arith) (omega arith) ∙ ap (λ i. getD list i 0) first)
-          (c .before .corner2 .ensures ∙ corner-here here 1 _ (omega arith) (omega arith))
-          (c .corner3 .ensures ∙ corner-here here 2 _ (omega arith) (omega arith)),
+          (corner-here here (j here) _ (omega arith) (omega arith) (c .before .before .corner .ensures))
+          (corner-here here (j here + 1) _ (omega arith) (omega arith) (c .before .corner2 .ensures))
+          (corner-here here (j here + 2) _ (omega arith) (omega arith) (c .corner3 .ensures)),
     )
 
 same-length : tie.Need-same-length Inv-loop μ-loop
