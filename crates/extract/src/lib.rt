@@ -74,7 +74,7 @@ fn measured(
     if exceeds(found, MOST_POINTS, room) {
         return refused_later(4, work);
     }
-    let made = triangles::count(nx, ny, nz, &masks);
+    let made = cuberows::count(nx, ny, nz, &masks);
     if exceeds(made, MOST_TRIANGLES, triangles.len() / 3) {
         return refused_later(5, work);
     }

@@ -14,7 +14,7 @@ use Rattle.cube.specs.Cube.{cubeEdgeCount, cornerX, cornerY, cornerZ, lowCorner
 use Rattle.grid.specs.Grid.{Size, site}
 use Rattle.grid.specs.Mesh.{cornerSite, gridEdge}
 use Rattle.grid.proofs.Sites.{site-add}
-use Rattle.triangles.specs.Row.{edgeOffset}
+use Rattle.triangles.specs.Names.{edgeOffset}
 use Rattle.laws.proofs.Lists.{map-at}
 
 -- edge e stands in the list of edges at e

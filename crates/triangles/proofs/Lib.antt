@@ -1,10 +1,5 @@
--- What the functions' proofs cite: the cases of a row; a step of the walk and what it counts; the cubes of a row that are busy, and the
--- walk from one to the next; the count of the grid; what is written; the edges of a cube as grid edges; the whole grid written.
-pub mod Cases
-pub mod Steps
-pub mod Busy
-pub mod Scanned
-pub mod Counted
+-- What the functions' proofs cite: a case's corners in the table; what is written; the edges of a cube as grid edges; the whole grid written.
+pub mod Table
 pub mod Names
 pub mod Edges
 pub mod Named

@@ -22,9 +22,11 @@ use Rattle.grid.specs.Work.{size, SidesFit, nameOf, Nameable, NamesFit}
 use Rattle.grid.proofs.Sides.{samples-most}
 use Rattle.grid.proofs.Edges.{grid-edge-small}
 use Rattle.masks.specs.Masks.{maskAbove}
-use Rattle.triangles.specs.Row.{masksAt, rowCase, edgeOffset, cornerName, cubeNames, layerNames}
+use Rattle.cuberows.specs.Row.{masksAt, rowCase}
+use Rattle.triangles.specs.Names.{edgeOffset, cornerName, cubeNames, layerNames}
 use Rattle.triangles.specs.Walk.{Written}
-use Rattle.triangles.proofs.Cases.{corners-crossed, case-of-masks}
+use Rattle.cuberows.proofs.Cases.{case-of-masks}
+use Rattle.triangles.proofs.Table.{corners-crossed}
 use Rattle.triangles.proofs.Edges.{offset-at, edge-place}
 
 -- what is written for layer z

@@ -13,11 +13,12 @@ use Rattle.cube.specs.Answer.{caseLength, count, triangles, table}
 use Rattle.cube.specs.Cube.{cases, cubeEdgeCount}
 use Rattle.cube.proofs.Cases.{CrossedEdge}
 use Rattle.grid.specs.Work.{Nameable}
-use Rattle.triangles.specs.Row.{cornerName, cubeNames}
+use Rattle.triangles.specs.Names.{cornerName, cubeNames}
 use Rattle.triangles.specs.Walk.{CornerFits, Written}
 use Rattle.laws.proofs.Lists.{all-get, map-at}
 use Rattle.laws.proofs.Sides.{length-corners}
-use Rattle.triangles.proofs.Cases.{corner-in-table, corners-crossed, count-most}
+use Rattle.cuberows.proofs.Cases.{count-most}
+use Rattle.triangles.proofs.Table.{corner-in-table, corners-crossed}
 
 -- a cube
 module _ (offsets names : List ℕ) (edge k : ℕ) where

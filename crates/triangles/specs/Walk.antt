@@ -1,34 +1,14 @@
--- What the parts of the walk rely on, and what those that write leave.
+-- What the parts that write rely on, and what they leave.
 use mathlib.Core.Path.{_≡_}
-use mathlib.Core.Bool.{true, false}
 use mathlib.Core.List.{List}
 use Prim.Native.Nat.{ℕ, _+_, _*_, _-_, _<_, _≤_}
 use lib.ListN.{length, getD}
 use lib.Seq.{sets}
-use Rattle.laws.specs.Bits.{bit}
 use Rattle.cube.specs.Cube.{cubeEdgeCount, cases}
 use Rattle.cube.specs.Answer.{count, caseLength}
-use Rattle.grid.specs.Limits.{leastSide, mostSide}
 use Rattle.grid.specs.Work.{Nameable}
-use Rattle.masks.specs.Masks.{AllSet}
-use Rattle.triangles.specs.declared.RowMasks.{RowMasks}
-use Rattle.triangles.specs.declared.Layer.{Layer}
-use Rattle.triangles.specs.Row.{rowCase, rowNames, layerNames}
-
--- a word has a bit set only at cubes whose second samples are in the row, and of those cubes all that have a triangle
-pub record BusyCubes (row : RowMasks) (full busy : ℕ) : Type 0 where
-  pub inside : (x : ℕ) → bit busy x ≡ true → bit full (x + 1) ≡ true
-  pub quiet : (x : ℕ) → bit busy x ≡ false → bit full (x + 1) ≡ true → count (rowCase row x) ≡ 0
-
--- a layer's sides are within the limits, its rows of samples and those of the next layer are among the masks, and its mask of a row that is all
--- above is one
-pub record LayerFits (l : Layer) (masks : List ℕ) : Type 0 where
-  pub least-x : leastSide ≤ l .nx
-  pub most-x : l .nx ≤ mostSide
-  pub least-y : leastSide ≤ l .ny
-  pub most-y : l .ny ≤ mostSide
-  pub rows : l .first + 2 * l .ny ≤ length masks
-  pub above : AllSet (l .nx) (l .full)
+use Rattle.cuberows.specs.declared.RowMasks.{RowMasks}
+use Rattle.triangles.specs.Names.{rowNames, layerNames}
 
 -- a corner's edge is read from the table, and its grid edge can be called by its name
 pub record CornerFits (rows offsets names : List ℕ) (place edge : ℕ) : Type 0 where

@@ -5,7 +5,7 @@ use native.Mathlib.Nat.{mul-assoc, mul-add, mul-zero, mul-one, add-zero, zero-ad
 use native.Mathlib.Omega.{arith}
 use borrow.Author.Needs.{needs}
 use Rattle.grid.specs.Limits.{mostSide}
-use Rattle.triangles.specs.Row.{edgeOffset}
+use Rattle.triangles.specs.Names.{edgeOffset}
 use Rattle.triangles.proofs.edge_offsets.Statement.{statement}
 use Rattle.triangles.proofs.edge_offsets.Tie as tie
 

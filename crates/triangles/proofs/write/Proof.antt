@@ -10,10 +10,11 @@ use lib.ListN.{getD}
 use Rattle.laws.specs.Range.{joinTo}
 use Rattle.grid.specs.Limits.{mostSide}
 use Rattle.grid.specs.Work.{Nameable}
-use Rattle.triangles.specs.declared.Layer.{Layer}
-use Rattle.triangles.specs.Row.{layerNames}
-use Rattle.triangles.specs.Walk.{LayerFits, LayerRoom, Written}
-use Rattle.triangles.proofs.Steps.{layer-fits}
+use Rattle.cuberows.specs.declared.Layer.{Layer}
+use Rattle.triangles.specs.Names.{layerNames}
+use Rattle.cuberows.specs.Walk.{LayerFits}
+use Rattle.triangles.specs.Walk.{LayerRoom, Written}
+use Rattle.cuberows.proofs.Steps.{layer-fits}
 use Rattle.triangles.proofs.Names.{written-none, written-more, written-room, written-length}
 use Rattle.triangles.proofs.Named.{layerOf, edge-nameable, grid-length, grid-laid}
 use Rattle.triangles.proofs.write.Statement.{statement}

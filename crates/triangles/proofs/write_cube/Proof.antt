@@ -6,7 +6,7 @@ use lib.ListN.{length, getD, take, length-set}
 use lib.Seq.{sets, length-sets, take-all}
 use Rattle.laws.proofs.Writes.{sets-three}
 use Rattle.cube.specs.Answer.{caseLength, count}
-use Rattle.triangles.specs.Row.{cornerName, cubeNames}
+use Rattle.triangles.specs.Names.{cornerName, cubeNames}
 use Rattle.triangles.specs.Walk.{CornerFits}
 use Rattle.triangles.proofs.Names.{length-cube, corner-fits, corner-is}
 use Rattle.triangles.proofs.write_cube.Statement.{statement}

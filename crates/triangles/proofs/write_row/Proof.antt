@@ -11,11 +11,12 @@ use lib.Seq.{sets}
 use Rattle.laws.specs.Bits.{wordBits}
 use Rattle.cube.specs.Answer.{mostCaseTriangles, count}
 use Rattle.cube.specs.Cube.{cases}
-use Rattle.triangles.specs.Row.{rowCase, cubeNames, rowNames}
+use Rattle.cuberows.specs.Row.{rowCase}
+use Rattle.triangles.specs.Names.{cubeNames, rowNames}
 use Rattle.triangles.specs.Walk.{CubeRoom, Written}
-use Rattle.triangles.proofs.Cases.{row-case-small, count-most}
-use Rattle.triangles.proofs.Steps.{case-held, count-read}
-use Rattle.triangles.proofs.Scanned.{Passed, passed-none, quiet-after, Found, found}
+use Rattle.cuberows.proofs.Cases.{row-case-small, count-most}
+use Rattle.cuberows.proofs.Steps.{case-held, count-read}
+use Rattle.cuberows.proofs.Scanned.{Passed, passed-none, quiet-after, Found, found}
 use Rattle.triangles.proofs.Names.{length-cube, cube-quiet, written-none, written-more, written-quiet, written-room, written-length}
 use Rattle.triangles.proofs.write_row.Statement.{statement}
 use Rattle.triangles.proofs.write_row.Tie as tie

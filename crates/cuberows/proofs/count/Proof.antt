@@ -1,16 +1,16 @@
--- `triangles::count` meets its contract. The loop's invariant: the sum is that of the layers passed. Assumes nothing.
+-- `cuberows::count` meets its contract. The loop's invariant: the sum is that of the layers passed. Assumes nothing.
 use mathlib.Core.Path.{_≡_, refl, ap, _∙_}
 use Prim.Native.Nat.{_*_, _-_, _≤_}
 use native.Mathlib.Nat.{mul-add}
 use native.Mathlib.Omega.{arith}
 use borrow.Author.Needs.{needs}
-use Rattle.triangles.specs.declared.Layer.{Layer}
-use Rattle.triangles.specs.Row.{layerCount}
-use Rattle.triangles.specs.Walk.{LayerFits}
-use Rattle.triangles.proofs.Steps.{layer-fits, layer-count-most}
-use Rattle.triangles.proofs.Counted.{gridCount, grid-count-first, grid-count-next, grid-count-most, mesh-count}
-use Rattle.triangles.proofs.count.Statement.{statement}
-use Rattle.triangles.proofs.count.Tie as tie
+use Rattle.cuberows.specs.declared.Layer.{Layer}
+use Rattle.cuberows.specs.Row.{layerCount}
+use Rattle.cuberows.specs.Walk.{LayerFits}
+use Rattle.cuberows.proofs.Steps.{layer-fits, layer-count-most}
+use Rattle.cuberows.proofs.Counted.{gridCount, grid-count-first, grid-count-next, grid-count-most, mesh-count}
+use Rattle.cuberows.proofs.count.Statement.{statement}
+use Rattle.cuberows.proofs.count.Tie as tie
 
 abbrev Inv-loop : tie.InvT-loop
 Inv-loop nx ny nz masks counts full last first₀ sum₀ counter₀ first sum counter =

@@ -6,10 +6,10 @@ use lib.Bits.{bitAnd, bitOr, bitXor}
 use Rattle.laws.specs.Bits.{bit}
 use Rattle.laws.proofs.Words.{bit-half, or-clear, xor-clear, and-clear, and-set}
 use Rattle.cube.specs.Answer.{count}
-use Rattle.triangles.specs.declared.RowMasks.{RowMasks}
-use Rattle.triangles.specs.Row.{rowCase}
-use Rattle.triangles.specs.Walk.{BusyCubes}
-use Rattle.triangles.proofs.Cases.{AllAt, one-side-empty}
+use Rattle.cuberows.specs.declared.RowMasks.{RowMasks}
+use Rattle.cuberows.specs.Row.{rowCase}
+use Rattle.cuberows.specs.Walk.{BusyCubes}
+use Rattle.cuberows.proofs.Cases.{AllAt, one-side-empty}
 
 module _ (m : RowMasks) where
   -- the code's words: where the four masks differ, and the cubes whose corners do, past the row's end too

@@ -15,12 +15,12 @@ use Rattle.cube.specs.Cube.{cases}
 use Rattle.cube.proofs.Places.{count-at}
 use Rattle.grid.specs.Work.{SidesFit}
 use Rattle.grid.specs.Limits.{mostSide}
-use Rattle.triangles.specs.declared.RowMasks.{RowMasks}
-use Rattle.triangles.specs.declared.Layer.{Layer}
-use Rattle.triangles.specs.Row.{masksAt, masksAfter, masksPast, masksFrom, firstCase, rowCase, rowCount, layerCount}
+use Rattle.cuberows.specs.declared.RowMasks.{RowMasks}
+use Rattle.cuberows.specs.declared.Layer.{Layer}
+use Rattle.cuberows.specs.Row.{masksAt, masksAfter, masksPast, masksFrom, firstCase, rowCase, rowCount, layerCount}
 use Rattle.masks.specs.Masks.{AllSet}
-use Rattle.triangles.specs.Walk.{LayerFits}
-use Rattle.triangles.proofs.Cases.{row-case-small, count-most}
+use Rattle.cuberows.specs.Walk.{LayerFits}
+use Rattle.cuberows.proofs.Cases.{row-case-small, count-most}
 
 -- no row of cubes has more triangles, and no layer
 abbrev pub mostInRow : ℕ

@@ -12,10 +12,10 @@ use Rattle.grid.specs.Mesh.{gridEdge, caseAt, cubeTriangles, edgeMesh}
 use Rattle.grid.specs.Work.{size}
 use Rattle.grid.specs.Limits.{mostSide}
 use Rattle.masks.specs.Masks.{maskAbove}
-use Rattle.triangles.specs.Row.{masksAt, rowCase, rowCount, layerCount}
+use Rattle.cuberows.specs.Row.{masksAt, rowCase, rowCount, layerCount}
 use Rattle.laws.proofs.Box.{sumBox, sum-box-cong, length-box}
-use Rattle.triangles.proofs.Cases.{case-of-masks}
-use Rattle.triangles.proofs.Steps.{mostInLayer, layer-count-most}
+use Rattle.cuberows.proofs.Cases.{case-of-masks}
+use Rattle.cuberows.proofs.Steps.{mostInLayer, layer-count-most}
 
 -- how many triangles the first layers have
 pub gridCount : ℕ → ℕ → ℕ → List ℕ → ℕ

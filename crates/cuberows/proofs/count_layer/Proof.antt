@@ -1,11 +1,11 @@
--- `triangles::count_layer` meets its contract. The loop's invariant: the sum is that of the rows passed. Assumes nothing.
+-- `cuberows::count_layer` meets its contract. The loop's invariant: the sum is that of the rows passed. Assumes nothing.
 use mathlib.Core.Path.{_≡_, ap, _∙_}
 use Prim.Native.Nat.{_+_, _-_, _≤_}
 use native.Mathlib.Omega.{arith}
-use Rattle.triangles.specs.Row.{masksAt, rowCount, layerCount}
-use Rattle.triangles.proofs.Steps.{above-row, row-count-most, layer-count-first, layer-count-next, layer-count-most}
-use Rattle.triangles.proofs.count_layer.Statement.{statement}
-use Rattle.triangles.proofs.count_layer.Tie as tie
+use Rattle.cuberows.specs.Row.{masksAt, rowCount, layerCount}
+use Rattle.cuberows.proofs.Steps.{above-row, row-count-most, layer-count-first, layer-count-next, layer-count-most}
+use Rattle.cuberows.proofs.count_layer.Statement.{statement}
+use Rattle.cuberows.proofs.count_layer.Tie as tie
 
 abbrev Inv-loop : tie.InvT-loop
 Inv-loop counts masks layer last sum₀ y₀ sum y = (y ≤ layer .ny - 1) × (sum ≡ layerCount (layer .nx) (layer .ny) y masks (layer .first))

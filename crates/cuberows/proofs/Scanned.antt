@@ -10,11 +10,11 @@ use Rattle.laws.specs.Bits.{wordBits, bit, halved}
 use Rattle.laws.proofs.Words.{lowest-small}
 use Rattle.laws.proofs.Scan.{scan-quiet, scan-found, scan-done, scan-next}
 use Rattle.cube.specs.Answer.{count}
-use Rattle.triangles.specs.declared.RowMasks.{RowMasks}
-use Rattle.triangles.specs.Row.{masksAfter, masksPast, masksFrom, rowCase}
+use Rattle.cuberows.specs.declared.RowMasks.{RowMasks}
+use Rattle.cuberows.specs.Row.{masksAfter, masksPast, masksFrom, rowCase}
 use Rattle.masks.specs.Masks.{AllSet}
-use Rattle.triangles.specs.Walk.{BusyCubes}
-use Rattle.triangles.proofs.Steps.{masks-first, masks-next, masks-past}
+use Rattle.cuberows.specs.Walk.{BusyCubes}
+use Rattle.cuberows.proofs.Steps.{masks-first, masks-next, masks-past}
 
 -- x cubes of the row are passed: the masks are those from cube x on, and so are the bits of the row's busy word b
 pub record Passed (row : RowMasks) (cubes b : ℕ) (rest : RowMasks) (busy x : ℕ) : Type 0 where

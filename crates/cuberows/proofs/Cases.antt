@@ -1,35 +1,28 @@
--- The cases of a row of cubes: those of its masks are those of the grid, and what the table has of each.
-use mathlib.Core.Path.{_≡_, refl, ap, ap₂, sym, _∙_}
+-- The cases of a row of cubes: those of its masks are those of the grid.
+use mathlib.Core.Path.{_≡_, refl, ap, ap₂, _∙_}
 use mathlib.Core.Bool.{Bool, true, false}
-use mathlib.Core.List.{List, [], _∷_, flatMap, flatten}
+use mathlib.Core.List.{List, flatMap}
 use Prim.Native.Nat.{ℕ, _+_, _-_, _*_, _%_, _<_, _≤_}
 use native.Mathlib.Nat.{mul-add}
 use native.Mathlib.Omega.{arith}
 use borrow.Author.Tests.{leb-true}
 use lib.Dec.{leb}
-use lib.ListN.{length, getD, take}
-use lib.Seq.{getD-take}
+use lib.ListN.{getD}
 use Rattle.laws.specs.Range.{one-if, allTo}
 use Rattle.laws.specs.Bits.{bit, bits, halved}
-use Rattle.laws.specs.Mesh.{Triangle, triangle, cornersOf, flat, sides}
-use Rattle.laws.specs.Sum.{All}
 use Rattle.laws.proofs.Tests.{all-at}
-use Rattle.laws.proofs.Sums.{all-weaken}
 use Rattle.cube.specs.Cube.{cases, cornerX, cornerY, cornerZ, caseOf, isAbove}
 use Rattle.cube.specs.Face.{cuts, wayRound, faceSegments, segmentsOf}
 use Rattle.cube.specs.Loop.{loops, fan}
-use Rattle.cube.specs.Answer.{mostCaseTriangles, caseLength, segments, triangles, count, cornersAt, answer, row, table}
-use Rattle.cube.proofs.Places.{entry}
-use Rattle.cube.proofs.Cases.{CrossedEdge, CrossedSide, sides-crossed}
+use Rattle.cube.specs.Answer.{mostCaseTriangles, segments, triangles, count}
 use Rattle.grid.specs.Grid.{site}
 use Rattle.grid.specs.Mesh.{cornerSite, caseAt}
 use Rattle.grid.specs.Work.{size}
 use Rattle.laws.proofs.Digits.{low-div, low-mod}
 use Rattle.masks.specs.Masks.{maskAbove}
-use Rattle.triangles.specs.declared.RowMasks.{RowMasks}
-use Rattle.triangles.specs.Row.{masksAt, rowCase}
+use Rattle.cuberows.specs.declared.RowMasks.{RowMasks}
+use Rattle.cuberows.specs.Row.{masksAt, rowCase}
 use Rattle.laws.proofs.Halves.{two-bits}
-use Rattle.laws.proofs.Sides.{corners-start}
 
 -- the masks give a byte
 pub row-case-small : (m : RowMasks) (x : ℕ) → rowCase m x < cases
@@ -70,38 +63,6 @@ one-side-empty b m x this next =
       same-bits b (m .m11) x (this .3) (next .3),
     ) in
     ap count k ∙ whole-cube b
-
--- of the table's fifteen numbers of a case, as many as its triangles have corners are those corners
-fifteen : List Triangle → List ℕ
-fifteen ts =
-    let at : ℕ → List ℕ = λ n. cornersOf (getD ts n (triangle 0 0 0)) in
-    flatten (at 0 ∷ at 1 ∷ at 2 ∷ at 3 ∷ at 4 ∷ [])
-
-corners-first : (ts : List Triangle) → length ts ≤ mostCaseTriangles → take (3 * length ts) (fifteen ts) ≡ flat ts
-unfolding fifteen flatten flat flatMap
-corners-first [] h = refl
-corners-first (a ∷ []) h = refl
-corners-first (a ∷ b ∷ []) h = refl
-corners-first (a ∷ b ∷ c ∷ []) h = refl
-corners-first (a ∷ b ∷ c ∷ d ∷ []) h = refl
-corners-first (a ∷ b ∷ c ∷ d ∷ e ∷ []) h = refl
-corners-first (a ∷ b ∷ c ∷ d ∷ e ∷ f ∷ ts) h = absurd (omega arith)
-
-pub corner-in-table : (k j : ℕ) → k < cases → j < 3 * count k → getD table (caseLength * k + j) 0 ≡ getD (flat (triangles k)) j 0
-unfolding count row answer cornersAt fifteen
-corner-in-table k j h l =
-    let most : length (triangles k) ≤ mostCaseTriangles = count-most k h in
-    let here : caseLength * k + j ≡ k * caseLength + j = omega arith in
-    ap (λ n. getD table n 0) here
-    ∙ entry k j h (omega arith)
-    ∙ sym (getD-take (3 * length (triangles k)) (fifteen (triangles k)) j 0 l)
-    ∙ ap (λ xs. getD xs j 0) (corners-first (triangles k) most)
-
--- each corner of a case's triangles is a crossed edge
-pub corners-crossed : (k : ℕ) → k < cases → All (CrossedEdge k) (flat (triangles k))
-corners-crossed k h =
-    corners-start (CrossedEdge k) (triangles k)
-    (all-weaken (CrossedSide k) (λ s. CrossedEdge k (s .from)) (λ s c. c .start) (sides (triangles k)) (sides-crossed k h))
 
 -- the case that the masks give is the grid's
 module _ (nx ny nz : ℕ) (masks : List ℕ) where

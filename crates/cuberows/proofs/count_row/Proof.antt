@@ -1,4 +1,4 @@
--- `triangles::count_row` meets its contract. The loop's invariant: some cubes are passed, and the sum is theirs. Assumes nothing.
+-- `cuberows::count_row` meets its contract. The loop's invariant: some cubes are passed, and the sum is theirs. Assumes nothing.
 use mathlib.Core.Path.{_≡_, ap, sym, _∙_}
 use Prim.Native.Nat.{ℕ, _+_, _<_, _≤_}
 use native.Mathlib.Omega.{arith}
@@ -8,12 +8,12 @@ use lib.ListN.{getD}
 use Rattle.laws.specs.Bits.{wordBits}
 use Rattle.cube.specs.Answer.{mostCaseTriangles, count}
 use Rattle.cube.specs.Cube.{cases}
-use Rattle.triangles.specs.Row.{rowCase, rowCount}
-use Rattle.triangles.proofs.Cases.{row-case-small, count-most}
-use Rattle.triangles.proofs.Steps.{case-held, count-read, row-count-first, row-count-next, row-count-most, row-count-quiet}
-use Rattle.triangles.proofs.Scanned.{Passed, passed-none, quiet-after, Found, found}
-use Rattle.triangles.proofs.count_row.Statement.{statement}
-use Rattle.triangles.proofs.count_row.Tie as tie
+use Rattle.cuberows.specs.Row.{rowCase, rowCount}
+use Rattle.cuberows.proofs.Cases.{row-case-small, count-most}
+use Rattle.cuberows.proofs.Steps.{case-held, count-read, row-count-first, row-count-next, row-count-most, row-count-quiet}
+use Rattle.cuberows.proofs.Scanned.{Passed, passed-none, quiet-after, Found, found}
+use Rattle.cuberows.proofs.count_row.Statement.{statement}
+use Rattle.cuberows.proofs.count_row.Tie as tie
 
 abbrev Inv-loop : tie.InvT-loop
 Inv-loop counts cubes full busy₀ rest₀ sum₀ busy rest sum = (x : ℕ) × Passed rest₀ cubes busy₀ rest busy x × (sum ≡ rowCount x rest₀)
