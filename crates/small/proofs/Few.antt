@@ -15,7 +15,7 @@ use Rattle.cube.proofs.Corners.{case-small}
 use Rattle.grid.specs.Grid.{Size, axes, sampleCount, edgeCount, crossed}
 use Rattle.grid.specs.Point.{pointEdges, number}
 use Rattle.grid.specs.Mesh.{cornerSite, gridEdge, caseAt, cubeTriangles, edgeMesh, mesh}
-use Rattle.triangles.proofs.Cases.{count-most}
+use Rattle.cuberows.proofs.Cases.{count-most}
 
 module _ (n : Size) (above : ℕ → Bool) where
   pub few-points : length (pointEdges axes n above) ≤ 3 * sampleCount n
