@@ -57,13 +57,21 @@ masks-next m x = rw (halved-next (m .m00) x, halved-next (m .m10) x, halved-next
 pub masks-past : (m : RowMasks) (x k : ℕ) → masksPast (masksFrom m x) k ≡ masksFrom m (x + k)
 masks-past m x k = rw (halved-more (m .m00) x k, halved-more (m .m10) x k, halved-more (m .m01) x k, halved-more (m .m11) x k)
 
--- the case that it reads off them, and the count of a case
-pub case-held : (m rest : RowMasks) (x k : ℕ) → rest ≡ masksFrom m x → k ≡ firstCase rest → k ≡ rowCase m x
-unfolding rowCase
-case-held m rest x k held read = read ∙ ap firstCase held
+-- k is the case of cube x, and the table of counts has its count, which is at most five
+pub record CaseRead (counts : List ℕ) (m : RowMasks) (x k : ℕ) : Type 0 where
+  pub is : k ≡ rowCase m x
+  pub small : k < cases
+  pub counted : getD counts k 0 ≡ count k
+  pub few : getD counts k 0 ≤ mostCaseTriangles
 
-pub count-read : (counts : List ℕ) (k : ℕ) → counts ≡ countTable → k < cases → getD counts k 0 ≡ count k
-count-read counts k e h = rw e (count-at k h)
+-- where the walk holds the masks from cube x on, the case that it reads off them
+pub case-read : (counts : List ℕ) (m rest : RowMasks) (x k : ℕ) → counts ≡ countTable → rest ≡ masksFrom m x → k ≡ firstCase rest → CaseRead counts m x k
+unfolding rowCase
+case-read counts m rest x k right held read =
+    let is : k ≡ rowCase m x = read ∙ ap firstCase held in
+    let small : k < cases = omega (arith, is, row-case-small m x) in
+    let counted : getD counts k 0 ≡ count k = rw right (count-at k small) in
+    record { is = is; small = small; counted = counted; few = omega (arith, counted, count-most k small) }
 
 -- the count along a row
 module _ (m : RowMasks) where

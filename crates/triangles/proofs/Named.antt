@@ -23,9 +23,9 @@ use Rattle.grid.proofs.Sides.{samples-most}
 use Rattle.grid.proofs.Edges.{grid-edge-small}
 use Rattle.masks.specs.Masks.{maskAbove}
 use Rattle.cuberows.specs.Row.{masksAt, rowCase}
+use Rattle.cuberows.proofs.Cases.{case-of-masks}
 use Rattle.triangles.specs.Names.{edgeOffset, cornerName, cubeNames, layerNames}
 use Rattle.triangles.specs.Walk.{Written}
-use Rattle.cuberows.proofs.Cases.{case-of-masks}
 use Rattle.triangles.proofs.Table.{corners-crossed}
 use Rattle.triangles.proofs.Edges.{offset-at, edge-place}
 

@@ -9,15 +9,15 @@ use Rattle.laws.specs.Range.{joinTo}
 use Rattle.laws.specs.Mesh.{flat}
 use Rattle.laws.proofs.Ranges.{join-next, join-quiet, join-room}
 use Rattle.laws.proofs.Writes.{sets-append}
+use Rattle.laws.proofs.Lists.{all-get, map-at}
+use Rattle.laws.proofs.Sides.{length-corners}
 use Rattle.cube.specs.Answer.{caseLength, count, triangles, table}
 use Rattle.cube.specs.Cube.{cases, cubeEdgeCount}
 use Rattle.cube.proofs.Cases.{CrossedEdge}
 use Rattle.grid.specs.Work.{Nameable}
+use Rattle.cuberows.proofs.Cases.{count-most}
 use Rattle.triangles.specs.Names.{cornerName, cubeNames}
 use Rattle.triangles.specs.Walk.{CornerFits, Written}
-use Rattle.laws.proofs.Lists.{all-get, map-at}
-use Rattle.laws.proofs.Sides.{length-corners}
-use Rattle.cuberows.proofs.Cases.{count-most}
 use Rattle.triangles.proofs.Table.{corner-in-table, corners-crossed}
 
 -- a cube

@@ -59,7 +59,7 @@ fn corner(
     name(names, edge + offsets[e])
 }
 
-// Writes one cube's triangles, a triangle a turn; `many` is how many corners they have.
+// Writes one cube's triangles, a triangle a turn; `many` is how many corners they have, and `edge` the first grid edge of the cube's first corner.
 fn write_cube(
     rows: &[u8; TABLE],
     offsets: &[usize; 12],

@@ -1,16 +1,13 @@
 -- `cuberows::count_row` meets its contract. The loop's invariant: some cubes are passed, and the sum is theirs. Assumes nothing.
 use mathlib.Core.Path.{_≡_, ap, sym, _∙_}
-use Prim.Native.Nat.{ℕ, _+_, _<_, _≤_}
+use Prim.Native.Nat.{ℕ, _+_}
 use native.Mathlib.Omega.{arith}
 use borrow.Author.Needs.{needs}
 use lib.Count.{trailingZeros}
-use lib.ListN.{getD}
 use Rattle.laws.specs.Bits.{wordBits}
-use Rattle.cube.specs.Answer.{mostCaseTriangles, count}
-use Rattle.cube.specs.Cube.{cases}
-use Rattle.cuberows.specs.Row.{rowCase, rowCount}
-use Rattle.cuberows.proofs.Cases.{row-case-small, count-most}
-use Rattle.cuberows.proofs.Steps.{case-held, count-read, row-count-first, row-count-next, row-count-most, row-count-quiet}
+use Rattle.cube.specs.Answer.{count}
+use Rattle.cuberows.specs.Row.{rowCount}
+use Rattle.cuberows.proofs.Steps.{CaseRead, case-read, row-count-first, row-count-next, row-count-most, row-count-quiet}
 use Rattle.cuberows.proofs.Scanned.{Passed, passed-none, quiet-after, Found, found}
 use Rattle.cuberows.proofs.count_row.Statement.{statement}
 use Rattle.cuberows.proofs.count_row.Tie as tie
@@ -51,39 +48,25 @@ after-requires c κs = found-here c .small
 case-requires : tie.Need-case-requires Inv-loop μ-loop
 case-requires c κs = search needs
 
--- the case that was read, and its count, in the words of the definitions
-abbrev caseHere : tie.In-loop Inv-loop μ-loop → ℕ
-caseHere c = rowCase (begun c .args .row) (cubeHere c)
-
-case-is : (c : tie.After-case Inv-loop μ-loop) → c .case .result ≡ caseHere (c .before .before)
-case-is c =
+-- the case that was read, and its count
+read : (c : tie.After-case Inv-loop μ-loop)
+    → let here = c .before .before in
+    CaseRead (begun here .args .counts .now) (begun here .args .row) (cubeHere here) (c .case .result)
+read c =
     let here = c .before .before in
-    case-held (begun here .args .row) (c .before .after .result) (cubeHere here) (c .case .result) (c .before .after .ensures ∙ found-here here .masks) (c .case .ensures)
-
-case-small : (c : tie.After-case Inv-loop μ-loop) → c .case .result < cases
-case-small c = omega (arith, case-is c, row-case-small (begun (c .before .before) .args .row) (cubeHere (c .before .before)))
-
-abbrev countHere : tie.After-case Inv-loop μ-loop → ℕ
-countHere c = getD (begun (c .before .before) .args .counts .now) (c .case .result) 0
-
-count-is : (c : tie.After-case Inv-loop μ-loop) → countHere c ≡ count (caseHere (c .before .before))
-count-is c = count-read _ _ (begun (c .before .before) .pre .0) (case-small c) ∙ ap count (case-is c)
-
-count-small : (c : tie.After-case Inv-loop μ-loop) → countHere c ≤ mostCaseTriangles
-count-small c =
-    omega (arith, count-is c, count-most (caseHere (c .before .before)) (row-case-small (begun (c .before .before) .args .row) (cubeHere (c .before .before))))
+    case-read _ _ (c .before .after .result) (cubeHere here) _ (begun here .pre .0) (c .before .after .ensures ∙ found-here here .masks) (c .case .ensures)
 
 element-copy-out-sum : tie.Need-element-copy-out-sum Inv-loop μ-loop
-element-copy-out-sum c = case-small c
+element-copy-out-sum c = read c .small
 
 cast-sum : tie.Need-cast-sum Inv-loop μ-loop
-cast-sum c = omega (arith, count-small (c .before))
+cast-sum c = omega (arith, read (c .before) .few)
 
 add-sum : tie.Need-add-sum Inv-loop μ-loop
 add-sum c =
     let here = c .before .before .before in
     let l = here .before .loop in
-    omega (arith, count-small (c .before), l .inv .1 .within, l .inv .2, row-count-most (begun here .args .row) (l .inv .0), begun here .pre .1 .0)
+    omega (arith, read (c .before) .few, l .inv .1 .within, l .inv .2, row-count-most (begun here .args .row) (l .inv .0), begun here .pre .1 .0)
 
 next-requires : tie.Need-next-requires Inv-loop μ-loop
 next-requires c κs = search needs
@@ -108,7 +91,8 @@ loop-again c =
       omega (
         arith,
         l .inv .2,
-        count-is (c .before .before),
+        read (c .before .before) .counted,
+        ap count (read (c .before .before) .is),
         row-count-quiet row (l .inv .0) (cubeHere here) (omega arith) (f .quiet),
         row-count-next row (cubeHere here),
       ),

@@ -53,11 +53,11 @@ module _ (c : tie.In-loop Inv-loop μ-loop) (p place : ℕ) (l : p < j c + 3) (a
 last-read : (c : tie.In-loop Inv-loop μ-loop) → caseLength * begun c .args .case + (j c + 2) < 2 ^ 32
 last-read c = omega (arith, corner-there c (j c + 2) _ (omega arith) refl .inside)
 
-kept : (c : tie.In-loop Inv-loop μ-loop) → length (c .before .loop .triangles) ≡ length (begun c .args .triangles .now)
-kept c = ap length (c .before .loop .inv .3) ∙ simp length-sets
+kept : (c : tie.At-loop Inv-loop μ-loop) → length (c .loop .triangles) ≡ length (c .before .before .before .args .triangles .now)
+kept c = ap length (c .loop .inv .3) ∙ simp length-sets
 
 last-write : (c : tie.In-loop Inv-loop μ-loop) → begun c .args .at + j c + 2 < length (c .before .loop .triangles)
-last-write c = omega (arith, begun c .pre .1, turn c, kept c)
+last-write c = omega (arith, begun c .pre .1, turn c, kept (c .before))
 
 add-place : tie.Need-add-place Inv-loop μ-loop
 add-place c = omega (arith, last-read c)
@@ -127,7 +127,7 @@ loop-again c =
     )
 
 same-length : tie.Need-same-length Inv-loop μ-loop
-same-length c = ap length (c .before .loop .inv .3) ∙ simp length-sets
+same-length c = kept (c .before)
 
 returns : tie.Need-returns Inv-loop μ-loop
 returns c =

@@ -7,9 +7,9 @@ use native.Mathlib.Omega.{arith}
 use lib.ListN.{getD}
 use Rattle.grid.specs.Work.{Nameable}
 use Rattle.cuberows.specs.Row.{masksAt}
+use Rattle.cuberows.proofs.Steps.{above-row}
 use Rattle.triangles.specs.Names.{rowNames, layerNames}
 use Rattle.triangles.specs.Walk.{RowRoom, Written}
-use Rattle.cuberows.proofs.Steps.{above-row}
 use Rattle.triangles.proofs.Names.{written-none, written-more, written-room, written-length}
 use Rattle.triangles.proofs.write_layer.Statement.{statement}
 use Rattle.triangles.proofs.write_layer.Tie as tie

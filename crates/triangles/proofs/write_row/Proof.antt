@@ -2,21 +2,19 @@
 -- written. Assumes nothing.
 use mathlib.Core.Path.{_≡_, ap, ap₂, _∙_}
 use mathlib.Core.List.{List}
-use Prim.Native.Nat.{ℕ, _+_, _*_, _^_, _<_, _≤_}
+use Prim.Native.Nat.{ℕ, _+_, _*_, _^_, _<_}
 use native.Mathlib.Omega.{arith}
 use borrow.Author.Needs.{needs}
 use lib.Count.{trailingZeros}
-use lib.ListN.{getD}
+use lib.ListN.{length, getD}
 use lib.Seq.{sets}
 use Rattle.laws.specs.Bits.{wordBits}
-use Rattle.cube.specs.Answer.{mostCaseTriangles, count}
-use Rattle.cube.specs.Cube.{cases}
+use Rattle.cube.specs.Answer.{count}
 use Rattle.cuberows.specs.Row.{rowCase}
+use Rattle.cuberows.proofs.Steps.{CaseRead, case-read}
+use Rattle.cuberows.proofs.Scanned.{Passed, passed-none, quiet-after, Found, found}
 use Rattle.triangles.specs.Names.{cubeNames, rowNames}
 use Rattle.triangles.specs.Walk.{CubeRoom, Written}
-use Rattle.cuberows.proofs.Cases.{row-case-small, count-most}
-use Rattle.cuberows.proofs.Steps.{case-held, count-read}
-use Rattle.cuberows.proofs.Scanned.{Passed, passed-none, quiet-after, Found, found}
 use Rattle.triangles.proofs.Names.{length-cube, cube-quiet, written-none, written-more, written-quiet, written-room, written-length}
 use Rattle.triangles.proofs.write_row.Statement.{statement}
 use Rattle.triangles.proofs.write_row.Tie as tie
@@ -89,56 +87,53 @@ add-here c = omega (arith, place-small (c .before), begun (c .before))
 case-requires : tie.Need-case-requires Inv-loop μ-loop
 case-requires c κs = search needs
 
--- the case that was read, its count, and the room for its numbers, in the words of the definitions
-case-is : (c : tie.After-case Inv-loop μ-loop) → c .case .result ≡ rowCase (begun (c .before .before) .args .row) (cubeHere (c .before .before))
-case-is c =
+-- the case that was read, its count, and the room for what is written
+read : (c : tie.After-case Inv-loop μ-loop)
+    → let here = c .before .before in
+    CaseRead (begun here .args .counts .now) (begun here .args .row) (cubeHere here) (c .case .result)
+read c =
     let here = c .before .before in
-    case-held (begun here .args .row) (c .before .after .result) (cubeHere here) (c .case .result) (c .before .after .ensures ∙ found-here here .masks) (c .case .ensures)
+    case-read _ _ (c .before .after .result) (cubeHere here) _ (begun here .pre .1 .0) (c .before .after .ensures ∙ found-here here .masks) (c .case .ensures)
 
-case-small : (c : tie.After-case Inv-loop μ-loop) → c .case .result < cases
-case-small c = omega (arith, case-is c, row-case-small (begun (c .before .before) .args .row) (cubeHere (c .before .before)))
-
-abbrev countHere : tie.After-case Inv-loop μ-loop → ℕ
-countHere c = getD (begun (c .before .before) .args .counts .now) (c .case .result) 0
-
-count-is : (c : tie.After-case Inv-loop μ-loop) → countHere c ≡ count (c .case .result)
-count-is c = count-read _ _ (begun (c .before .before) .pre .1 .0) (case-small c)
-
-count-small : (c : tie.After-case Inv-loop μ-loop) → countHere c ≤ mostCaseTriangles
-count-small c = omega (arith, count-is c, count-most (c .case .result) (case-small c))
+abbrev corners : tie.After-case Inv-loop μ-loop → ℕ
+corners c = 3 * getD (begun (c .before .before) .args .counts .now) (c .case .result) 0
 
 element-copy-out-many : tie.Need-element-copy-out-many Inv-loop μ-loop
-element-copy-out-many c = case-small c
+element-copy-out-many c = read c .small
 
 cast-many : tie.Need-cast-many Inv-loop μ-loop
-cast-many c = omega (arith, count-small (c .before))
+cast-many c = omega (arith, read (c .before) .few)
 
 mul-many : tie.Need-mul-many Inv-loop μ-loop
-mul-many c = omega (arith, count-small (c .before))
+mul-many c = omega (arith, read (c .before) .few)
+
+-- it has as many corners as the cube's list has names
+corners-are : (c : tie.After-case Inv-loop μ-loop) → corners c ≡ length (cubeOf (begun (c .before .before)) (cubeHere (c .before .before)))
+corners-are c =
+    let here = c .before .before in
+    let a = begun here .args in
+    omega (
+      arith,
+      read c .counted,
+      ap count (read c .is),
+      length-cube (a .offsets .now) (a .names .now) (a .edge + 3 * cubeHere here) (rowCase (a .row) (cubeHere here)),
+    )
 
 room-here : (c : tie.After-case Inv-loop μ-loop)
     → let here = c .before .before in
     let a = begun here .args in
     let l = here .before .loop in
-    CubeRoom (a .offsets .now) (a .names .now) (l .triangles) (c .case .result) (3 * countHere c) (l .here + 3 * skip here) (l .to)
+    CubeRoom (a .offsets .now) (a .names .now) (l .triangles) (c .case .result) (corners c) (l .here + 3 * skip here) (l .to)
 room-here c =
     let here = c .before .before in
     let s = begun here in
-    let a = s .args in
     let room = s .pre .1 .1 .1 .1 in
     let inside = found-here here .inside in
     record {
-      small = case-small c;
-      corners = ap (λ n. 3 * n) (count-is c);
+      small = read c .small;
+      corners = ap (λ n. 3 * n) (read c .counted);
       named = λ e h. rw (place-is here) (room .named (cubeHere here) e inside h);
-      holds =
-          omega (
-            arith,
-            written-room (cubeOf s) (cubeHere here) (written-here here) (a .cubes) inside (room .holds),
-            length-cube (a .offsets .now) (a .names .now) (a .edge + 3 * cubeHere here) (rowCase (a .row) (cubeHere here)),
-            count-is c,
-            ap count (case-is c),
-          );
+      holds = omega (arith, corners-are c, written-room (cubeOf s) (cubeHere here) (written-here here) (s .args .cubes) inside (room .holds));
     }
 
 -- what the cube's call leaves is its list
@@ -146,16 +141,16 @@ cube-written : (c : tie.After-case Inv-loop μ-loop)
     → let here = c .before .before in
     let s = begun here in
     cubeNames (s .args .offsets .now) (s .args .names .now) (here .before .loop .here + 3 * skip here) (c .case .result) ≡ cubeOf s (cubeHere here)
-cube-written c = ap₂ (cubeNames _ _) (place-is (c .before .before)) (case-is c)
+cube-written c = ap₂ (cubeNames _ _) (place-is (c .before .before)) (read c .is)
 
 write-cube-requires : tie.Need-write-cube-requires Inv-loop μ-loop
 write-cube-requires c κs = (begun (c .before .before .before .before) .pre .0, room-here (c .before .before))
 
 add-to : tie.Need-add-to Inv-loop μ-loop
 add-to c =
-    let read = c .before .before .before .before .before in
-    let here = read .before .before in
-    omega (arith, room-here read .holds, written-length (here .before .loop .inv .3), begun here)
+    let case = c .before .before .before .before .before in
+    let here = case .before .before in
+    omega (arith, room-here case .holds, written-length (here .before .loop .inv .3), begun here)
 
 add-here-2 : tie.Need-add-here-2 Inv-loop μ-loop
 add-here-2 c =
@@ -180,23 +175,15 @@ loop-less c = found-here (turned c) .falls
 
 loop-again : tie.Need-loop-again Inv-loop μ-loop
 loop-again c =
-    let read = c .before .before .before .before .before .before in
-    let here = turned c in
-    let s = begun here in
-    let a = s .args in (
+    let case = c .before .before .before .before .before .before in
+    let here = turned c in (
       cubeHere here + 1,
-      found-here here .next _ _ (read .before .after .ensures) (c .next .ensures),
+      found-here here .next _ _ (case .before .after .ensures) (c .next .ensures),
       omega (arith, place-is here),
-      written-more (cubeOf s) (cubeHere here) (written-here here)
+      written-more (cubeOf (begun here)) (cubeHere here) (written-here here)
           (record {
-            room = c .before .before .before .write-cube .ensures ∙ ap (sets _ _) (cube-written read);
-            end =
-                omega (
-                  arith,
-                  length-cube (a .offsets .now) (a .names .now) (a .edge + 3 * cubeHere here) (rowCase (a .row) (cubeHere here)),
-                  count-is read,
-                  ap count (case-is read),
-                );
+            room = c .before .before .before .write-cube .ensures ∙ ap (sets _ _) (cube-written case);
+            end = omega (arith, corners-are case);
           }),
     )
 
