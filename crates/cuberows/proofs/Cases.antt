@@ -1,33 +1,37 @@
--- The cases of a row of cubes: those of its masks are those of the grid.
-use mathlib.Core.Path.{_≡_, refl, ap, ap₂, _∙_}
+-- The cases of a stretch of cubes: those of its words are those of the grid.
+use mathlib.Core.Path.{_≡_, refl, ap, sym, _∙_}
 use mathlib.Core.Bool.{Bool, true, false}
 use mathlib.Core.List.{List, flatMap}
-use Prim.Native.Nat.{ℕ, _+_, _-_, _*_, _%_, _<_, _≤_}
+use Prim.Native.Nat.{ℕ, _+_, _-_, _*_, _/_, _%_, _^_, _<_, _≤_}
 use native.Mathlib.Nat.{mul-add}
 use native.Mathlib.Omega.{arith}
 use borrow.Author.Tests.{leb-true}
 use lib.Dec.{leb}
 use lib.ListN.{getD}
 use Rattle.laws.specs.Range.{one-if, allTo}
-use Rattle.laws.specs.Bits.{bit, bits, halved}
+use Rattle.laws.specs.Bits.{bit, bits}
 use Rattle.laws.proofs.Tests.{all-at}
+use Rattle.laws.proofs.Halves.{two-bits}
 use Rattle.cube.specs.Cube.{cases, cornerX, cornerY, cornerZ, caseOf, isAbove}
 use Rattle.cube.specs.Face.{cuts, wayRound, faceSegments, segmentsOf}
 use Rattle.cube.specs.Loop.{loops, fan}
-use Rattle.cube.specs.Answer.{mostCaseTriangles, segments, triangles, count}
+use Rattle.cube.specs.Answer.{mostCaseTriangles, segments, triangles, count, countTable}
+use Rattle.cube.proofs.Places.{count-at}
 use Rattle.grid.specs.Grid.{site}
 use Rattle.grid.specs.Mesh.{cornerSite, caseAt}
-use Rattle.grid.specs.Work.{size}
-use Rattle.laws.proofs.Digits.{low-div, low-mod}
-use Rattle.masks.specs.Masks.{maskAbove}
-use Rattle.cuberows.specs.declared.RowMasks.{RowMasks}
-use Rattle.cuberows.specs.Row.{masksAt, rowCase}
-use Rattle.laws.proofs.Halves.{two-bits}
+use Rattle.masks.specs.Masks.{wordCubes, maskAbove}
+use Rattle.rows.specs.declared.Sides.{Sides}
+use Rattle.rows.specs.declared.Stretch.{Stretch}
+use Rattle.rows.specs.Rows.{sizeOf, Ready, Stands, ownCubes}
+use Rattle.rows.proofs.Stretches.{behind-is, over-is, both-is, row-there, behind-there, over-there, both-there, cubes-most}
+use Rattle.rows.proofs.Cut.{bit-is}
+use Rattle.cuberows.specs.declared.Corners.{Corners}
+use Rattle.cuberows.specs.Cubes.{cornersAt, readCase, wordCase, cubeCase}
 
--- the masks give a byte
-pub row-case-small : (m : RowMasks) (x : ℕ) → rowCase m x < cases
-unfolding rowCase
-row-case-small m x = omega arith
+-- the words give a byte
+pub word-case-small : (m : Corners) (i : ℕ) → wordCase m i < cases
+unfolding wordCase
+word-case-small m i = omega arith
 
 -- a case has at most five triangles
 every-count-most : allTo cases (λ k. leb (count k) mostCaseTriangles) ≡ true
@@ -37,7 +41,21 @@ every-count-most = refl
 pub count-most : (k : ℕ) → k < cases → count k ≤ mostCaseTriangles
 count-most k h = leb-true (count k) mostCaseTriangles (all-at cases (λ k. leb (count k) mostCaseTriangles) every-count-most k h)
 
-same-bits : (b : Bool) (v x : ℕ) → bit v x ≡ b → bit v (x + 1) ≡ b → halved v x % 4 ≡ 3 * one-if b
+-- k is the case of cube i, and the table of counts has its count, which is at most five
+pub record CaseRead (counts : List ℕ) (m : Corners) (i k : ℕ) : Type 0 where
+  pub is : k ≡ wordCase m i
+  pub small : k < cases
+  pub counted : getD counts k 0 ≡ count k
+  pub few : getD counts k 0 ≤ mostCaseTriangles
+
+pub case-read : (counts : List ℕ) (m : Corners) (i k : ℕ) → counts ≡ countTable → k ≡ readCase m i → CaseRead counts m i k
+unfolding wordCase
+case-read counts m i k right is =
+    let small : k < cases = omega (arith, is, word-case-small m i) in
+    let counted : getD counts k 0 ≡ count k = rw right (count-at k small) in
+    record { is = is; small = small; counted = counted; few = omega (arith, counted, count-most k small) }
+
+same-bits : (b : Bool) (v x : ℕ) → bit v x ≡ b → bit v (x + 1) ≡ b → v / 2 ^ x % 4 ≡ 3 * one-if b
 same-bits b v x this next = two-bits v x ∙ rw (this, next) (omega arith)
 
 -- a cube that is all above or all below has no triangle
@@ -46,15 +64,15 @@ unfolding count triangles fan loops segments segmentsOf flatMap faceSegments cut
 whole-cube true = refl
 whole-cube false = refl
 
--- the four masks have b for bit x
-abbrev pub AllAt : Bool → RowMasks → ℕ → Type 0
+-- the four words have b for bit x
+abbrev pub AllAt : Bool → Corners → ℕ → Type 0
 AllAt b m x = (bit (m .m00) x ≡ b) × (bit (m .m10) x ≡ b) × (bit (m .m01) x ≡ b) × (bit (m .m11) x ≡ b)
 
 -- a cube at both of whose ends they have the same bit has no triangle
-pub one-side-empty : (b : Bool) (m : RowMasks) (x : ℕ) → AllAt b m x → AllAt b m (x + 1) → count (rowCase m x) ≡ 0
-unfolding rowCase
+pub one-side-empty : (b : Bool) (m : Corners) (x : ℕ) → AllAt b m x → AllAt b m (x + 1) → count (wordCase m x) ≡ 0
+unfolding wordCase
 one-side-empty b m x this next =
-    let k : rowCase m x ≡ (cases - 1) * one-if b =
+    let k : wordCase m x ≡ (cases - 1) * one-if b =
     omega (
       arith,
       same-bits b (m .m00) x (this .0) (next .0),
@@ -64,39 +82,50 @@ one-side-empty b m x this next =
     ) in
     ap count k ∙ whole-cube b
 
--- the case that the masks give is the grid's
-module _ (nx ny nz : ℕ) (masks : List ℕ) where
-  mask-at : (x y z : ℕ) → x < nx → maskAbove nx masks (site (size nx ny nz) x y z) ≡ bit (getD masks (y + ny * z) 0) x
-  unfolding maskAbove site
-  mask-at x y z h = rw (low-div x nx (y + ny * z) h, low-mod x nx (y + ny * z) h)
+-- the case that the words give is the grid's
+module _ (sides : Sides) (masks : List ℕ) (ready : Ready sides masks) (z : ℕ) (at : Stretch) (stands : Stands sides z at) (hy : at .y + 1 < sides .ny) (hz : z + 1 < sides .nz) (i : ℕ)
+    (h : i < ownCubes (at .left)) where
+  abbrev row : ℕ
+  row = at .y + sides .ny * z
 
-  module _ (x y z : ℕ) (h : x + 1 < nx) where
-    corner : (c along r : ℕ) → x + cornerX c ≡ along → y + cornerY c + ny * (z + cornerZ c) ≡ r → along < nx
-        → maskAbove nx masks (cornerSite (size nx ny nz) x y z c) ≡ bit (getD masks r 0) along
-    unfolding cornerSite
-    corner c along r p q l =
-        mask-at (x + cornerX c) (y + cornerY c) (z + cornerZ c) (omega arith) ∙ ap₂ (λ r x. bit (getD masks r 0) x) q p
+  -- a corner's bit of its word
+  corner : (c along r word : ℕ) → i + cornerX c ≡ along → at .y + cornerY c + sides .ny * (z + cornerZ c) ≡ r → word ≡ stands .words + sides .words * r
+      → along ≤ i + 1 → r < sides .ny * sides .nz
+      → maskAbove (sides .nx) masks (cornerSite (sizeOf sides) (wordCubes * stands .words + i) (at .y) z c) ≡ bit (getD masks word 0) along
+  unfolding cornerSite site
+  corner c along r word p q is l there =
+      let most = cubes-most sides z at stands in
+      let x : wordCubes * stands .words + i + cornerX c ≡ wordCubes * stands .words + along = omega arith in
+      rw (q, x, is) (sym (bit-is sides masks ready z at stands (omega arith) (omega arith) r along there (omega (arith, most)) (omega (arith, most))))
 
-    pub case-of-masks : rowCase (masksAt masks ny (ny * z + y)) x ≡ caseAt (size nx ny nz) (maskAbove nx masks) x y z
-    unfolding rowCase caseAt caseOf bits
-    case-of-masks =
-        let r : ℕ = ny * z + y in
-        let this : ny * (z + 0) ≡ ny * z = omega (arith, mul-add ny z 0) in
-        let next : ny * (z + 1) ≡ ny * z + ny = omega (arith, mul-add ny z 1) in
-        rw (
-          corner 0 x r (omega arith) (omega arith) (omega arith),
-          corner 1 (x + 1) r (omega arith) (omega arith) (omega arith),
-          corner 2 x (r + 1) (omega arith) (omega arith) (omega arith),
-          corner 3 (x + 1) (r + 1) (omega arith) (omega arith) (omega arith),
-          corner 4 x (r + ny) (omega arith) (omega arith) (omega arith),
-          corner 5 (x + 1) (r + ny) (omega arith) (omega arith) (omega arith),
-          corner 6 x (r + ny + 1) (omega arith) (omega arith) (omega arith),
-          corner 7 (x + 1) (r + ny + 1) (omega arith) (omega arith) (omega arith),
-        )
-        (omega (
-          arith,
-          two-bits (getD masks r 0) x,
-          two-bits (getD masks (r + 1) 0) x,
-          two-bits (getD masks (r + ny) 0) x,
-          two-bits (getD masks (r + ny + 1) 0) x,
-        ))
+  pub case-is : wordCase (cornersAt masks (sides .words) (sides .ny) (at .word)) i ≡ cubeCase sides masks z (wordCubes * stands .words + i) (at .y)
+  unfolding wordCase caseAt caseOf bits
+  case-is =
+      let hy′ : at .y < sides .ny = omega arith in
+      let hz′ : z < sides .nz = omega arith in
+      let this : sides .ny * (z + 0) ≡ sides .ny * z = omega (arith, mul-add (sides .ny) z 0) in
+      let next : sides .ny * (z + 1) ≡ sides .ny * z + sides .ny = omega (arith, mul-add (sides .ny) z 1) in
+      let behind = behind-is sides z at stands in
+      let over = over-is sides z at stands in
+      let both = both-is sides z at stands in
+      let here = row-there sides z at stands hy′ hz′ in
+      let further = behind-there sides z at stands hy′ hz′ hy in
+      let upper = over-there sides z at stands hy′ hz′ hz in
+      let last = both-there sides z at stands hy hz in
+      rw (
+        corner 0 i row (at .word) (omega arith) (omega arith) (stands .word) (omega arith) here,
+        corner 1 (i + 1) row (at .word) (omega arith) (omega arith) (stands .word) (omega arith) here,
+        corner 2 i (row + 1) (at .word + sides .words) (omega arith) (omega arith) behind (omega arith) further,
+        corner 3 (i + 1) (row + 1) (at .word + sides .words) (omega arith) (omega arith) behind (omega arith) further,
+        corner 4 i (row + sides .ny) (at .word + sides .words * sides .ny) (omega arith) (omega arith) over (omega arith) upper,
+        corner 5 (i + 1) (row + sides .ny) (at .word + sides .words * sides .ny) (omega arith) (omega arith) over (omega arith) upper,
+        corner 6 i (row + sides .ny + 1) (at .word + sides .words * sides .ny + sides .words) (omega arith) (omega arith) both (omega arith) last,
+        corner 7 (i + 1) (row + sides .ny + 1) (at .word + sides .words * sides .ny + sides .words) (omega arith) (omega arith) both (omega arith) last,
+      )
+      (omega (
+        arith,
+        two-bits (getD masks (at .word) 0) i,
+        two-bits (getD masks (at .word + sides .words) 0) i,
+        two-bits (getD masks (at .word + sides .words * sides .ny) 0) i,
+        two-bits (getD masks (at .word + sides .words * sides .ny + sides .words) 0) i,
+      ))

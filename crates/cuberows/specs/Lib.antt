@@ -1,3 +1,2 @@
--- Rows of cubes, what the walk along them counts, and what its parts rely on.
-pub mod Row
-pub mod Walk
+-- Cubes by the words of the samples around them, and their triangles, counted.
+pub mod Cubes

@@ -2,7 +2,7 @@
 use mathlib.Core.Path.{_≡_, ap, sym, _∙_}
 use mathlib.Core.List.{List, map, flatMap}
 use mathlib.Core.Bool.{Bool, true, false}
-use Prim.Native.Nat.{ℕ, _*_, _/_, _≤_, min}
+use Prim.Native.Nat.{ℕ, _*_, _/_, _<_, _≤_, min}
 use native.Mathlib.Omega.{arith}
 use lib.Dec.{ltb}
 use lib.ListN.{length, replicate, length-map}
@@ -16,6 +16,7 @@ use Rattle.grid.specs.Mesh.{edgeMesh, mesh}
 use Rattle.grid.specs.Work.{size, SidesFit}
 use Rattle.grid.proofs.Same.{points-same, mesh-same}
 use Rattle.masks.specs.Masks.{maskAbove, Masked}
+use Rattle.masks.proofs.Above.{told-above}
 use Rattle.extract.specs.Extraction.{Rooms, Outcome, refused, cleared, pointList, triangleList, pointRoom, triangleRoom, granted, measured}
 use Rattle.extract.specs.Promise.{rooms, left}
 
@@ -23,13 +24,16 @@ module _ (nx ny nz grey : ℕ) (samples masks : List ℕ) (fits : SidesFit nx ny
   abbrev masksPoints : List ℕ
   masksPoints = pointEdges axes (size nx ny nz) (maskAbove nx masks)
 
+  same : (s : ℕ) → s < nx * (ny * nz) → maskAbove nx masks s ≡ isAboveGrey grey samples s
+  same = told-above nx (ny * nz) (isAboveGrey grey samples) masks (fits .least-x) masked
+
   pub points-are : (r : Rooms) → masksPoints ≡ pointList (size nx ny nz) grey samples r
   points-are r =
-      points-same (size nx ny nz) (omega (arith, fits .least-x)) (omega (arith, fits .least-y)) (maskAbove nx masks) (isAboveGrey grey samples) masked axes
+      points-same (size nx ny nz) (omega (arith, fits .least-x)) (omega (arith, fits .least-y)) (maskAbove nx masks) (isAboveGrey grey samples) same axes
 
   pub mesh-is : (r : Rooms) → mesh (size nx ny nz) (maskAbove nx masks) ≡ triangleList (size nx ny nz) grey samples r
   mesh-is r =
-      mesh-same (size nx ny nz) (omega (arith, fits .least-x)) (omega (arith, fits .least-y)) (maskAbove nx masks) (isAboveGrey grey samples) masked
+      mesh-same (size nx ny nz) (omega (arith, fits .least-x)) (omega (arith, fits .least-y)) (maskAbove nx masks) (isAboveGrey grey samples) same
 
   pub mesh-count : (r : Rooms) → length (edgeMesh (size nx ny nz) (maskAbove nx masks)) ≡ length (triangleList (size nx ny nz) grey samples r)
   unfolding mesh

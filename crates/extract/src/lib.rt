@@ -7,8 +7,8 @@ ghost use Rattle.grid.specs.Grid.{axes, sampleCount, edgeCount};
 ghost use Rattle.grid.specs.Work.{size, SidesFit};
 ghost use Rattle.extract.specs.Promise.{rooms, left, Extracts, Measures};
 use grid::limits::MOST_POINTS;
-use grid::limits::MOST_ROWS;
 use grid::limits::MOST_TRIANGLES;
+use masks::MOST_WORDS;
 
 // Number 0 and the two counts if granted, else the refusal's number and zero counts.
 pub struct Extracted {
@@ -67,7 +67,7 @@ fn measured(
         let after = rooms (now (points .exit)) (now (edges .exit)) (now (marks .exit)) (now (triangles .exit)) (now (work .exit)) in
         ⌜ Measures nx ny nz grey (now (samples .entry)) before (left (r .number) (r .points) (r .triangles) after) ⌝ }
 {
-    let mut masks = [0u64; MOST_ROWS];
+    let mut masks = [0u64; MOST_WORDS];
     masks::fill(samples, nx, ny * nz, grey, &mut masks);
     let found = pointnumbers::number(nx, ny, nz, &masks, work);
     let room = rooms::least(points.len() / 3, rooms::least(edges.len(), marks.len()));

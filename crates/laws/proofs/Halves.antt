@@ -1,33 +1,24 @@
--- A number's bits, read off as it is halved again and again.
+-- A number's bits, read off as it is shifted, and the numbers whose bits are given.
 use mathlib.Core.Path.{_≡_, refl, ap, sym, _∙_}
 use mathlib.Core.List.{List, [], _∷_, _++_}
 use mathlib.Core.Bool.{Bool, false}
 use Prim.Native.Nat.{ℕ, zero, suc, _+_, _*_, _/_, _%_, _^_, _<_}
 use native.Mathlib.Numerals.{add-one}
-use native.Mathlib.Nat.{add-zero, zero-add, suc-add, one-mul, mul-assoc, mul-comm, pow-suc}
+use native.Mathlib.Nat.{add-zero, zero-add, suc-add, one-mul, mul-assoc, mul-comm, pow-suc, pow-zero, div-one, div-div-eq-div-mul}
 use native.Mathlib.Omega.{arith}
 use lib.Dec.{eqb, ltb, leb·suc-suc}
 use lib.Pow.{pow-pos}
 use borrow.Author.Tests.{eq-eqb, lt-ltb, le-ltb}
 use lib.ListN.{length, getD}
 use Rattle.laws.specs.Range.{one-if}
-use Rattle.laws.specs.Bits.{bits, bit, valuesFrom, halved}
+use Rattle.laws.specs.Bits.{bits, bit, valuesFrom}
 use Rattle.laws.proofs.Binary.{bit-of-bits, number-back}
 
-pub halved-next : (n i : ℕ) → halved n (i + 1) ≡ halved n i / 2
-unfolding halved
-halved-next n i = rw add-one
-
-halved-first : (n i : ℕ) → halved (n / 2) i ≡ halved n i / 2
-unfolding halved
-halved-first n zero = refl
-halved-first n (suc i) = ap (λ k. k / 2) (halved-first n i)
-
--- bit i is the lowest bit of the number halved i times
-pub bit-halved : (n i : ℕ) → bit n i ≡ eqb (halved n i % 2) 1
-unfolding bit halved
-bit-halved n zero = refl
-bit-halved n (suc i) = bit-halved (n / 2) i ∙ ap (λ k. eqb (k % 2) 1) (halved-first n i)
+-- bit i is the lowest bit of the number shifted by i
+pub bit-shifted : (n i : ℕ) → bit n i ≡ eqb (n / 2 ^ i % 2) 1
+unfolding bit
+bit-shifted n zero = rw (pow-zero 2, div-one n)
+bit-shifted n (suc i) = bit-shifted (n / 2) i ∙ ap (λ k. eqb (k % 2) 1) (div-div-eq-div-mul n 2 (2 ^ i) ∙ ap (λ k. n / k) (mul-comm 2 (2 ^ i) ∙ sym (pow-suc 2 i)))
 
 pub length-values : (f : ℕ → Bool) (x n : ℕ) → length (valuesFrom f x n) ≡ n
 unfolding valuesFrom
@@ -73,8 +64,9 @@ bit-of-ones zero n x e = let z : n ≡ 0 = omega arith in rw z (bit-of-zero x �
 bit-of-ones (suc k) n zero e = eq-eqb (n % 2) 1 (omega (arith, pow-suc 2 k)) ∙ sym (lt-ltb 0 (suc k) (omega arith))
 bit-of-ones (suc k) n (suc x) e = bit-of-ones k (n / 2) x (omega (arith, pow-suc 2 k, pow-pos k)) ∙ sym (leb·suc-suc (suc x) k)
 
--- the two lowest bits of a number halved x times
-pub two-bits : (n x : ℕ) → halved n x % 4 ≡ one-if (bit n x) + 2 * one-if (bit n (x + 1))
+-- the two lowest bits of a number shifted by x
+pub two-bits : (n x : ℕ) → n / 2 ^ x % 4 ≡ one-if (bit n x) + 2 * one-if (bit n (x + 1))
 two-bits n x =
-    rw (bit-halved n x, bit-halved n (x + 1), halved-next n x)
-    (omega (arith, number-back (halved n x % 2) (omega arith), number-back (halved n x / 2 % 2) (omega arith)))
+    let next : n / 2 ^ (x + 1) ≡ n / 2 ^ x / 2 = rw (add-one x, pow-suc 2 x) (sym (div-div-eq-div-mul n (2 ^ x) 2)) in
+    rw (bit-shifted n x, bit-shifted n (x + 1), next)
+    (omega (arith, number-back (n / 2 ^ x % 2) (omega arith), number-back (n / 2 ^ x / 2 % 2) (omega arith)))

@@ -3,13 +3,13 @@ use mathlib.Core.Path.{_≡_, refl, sym}
 use mathlib.Core.Bool.{Bool, true, false, _&&_, and-eq-true-iff, and-false, _||_, xor, true≢false}
 use mathlib.Core.Logic.{_⊎_, inl, inr}
 use mathlib.Core.List.{List, [], _∷_}
-use Prim.Native.Nat.{ℕ, zero, suc, _+_, _<_}
+use Prim.Native.Nat.{ℕ, zero, suc, _+_, _<_, _≤_}
 use native.Mathlib.Decide.{decLt}
 use native.Mathlib.Numerals.{add-one}
 use native.Mathlib.Omega.{arith}
-use lib.Dec.{eqb}
+use lib.Dec.{eqb, leb}
 use lib.ListN.{length}
-use borrow.Author.Tests.{eq-eqb, ne-eqb, eqb-true, eqb-false}
+use borrow.Author.Tests.{eq-eqb, ne-eqb, eqb-true, eqb-false, leb-true, leb-false}
 use Rattle.laws.specs.Range.{allTo, one-if}
 use Rattle.laws.specs.Sum.{allOf, All}
 use Rattle.laws.specs.Bits.{allRows}
@@ -88,6 +88,14 @@ all-holds (suc n) p h = rw (h n (omega arith)) (all-holds n p (λ k l. h k (omeg
 pub either : (a b : Bool) → (a || b) ≡ true → (a ≡ true) ⊎ (b ≡ true)
 either true b h = inl refl
 either false b h = inr h
+
+-- what holds on either side of a test of two numbers holds of the test
+pub leb-cases : (a b : ℕ) (P : Bool → Type 0) → (a ≤ b → P true) → (b < a → P false) → P (leb a b)
+leb-cases a b P short long = go (leb a b) refl
+  where
+    go : (t : Bool) → leb a b ≡ t → P t
+    go true e = short (leb-true a b e)
+    go false e = long (leb-false a b e)
 
 -- neither of two tests passed
 pub neither : (a b : Bool) → (a || b) ≡ false → (a ≡ false) × (b ≡ false)

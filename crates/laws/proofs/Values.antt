@@ -5,13 +5,12 @@ use Prim.Native.Nat.{ℕ, zero, suc, _+_, _<_}
 use native.Mathlib.Decide.{decLt, ℕ-discrete}
 use native.Mathlib.Omega.{arith}
 use lib.ListN.{length, getD, set, drop, length-append, length-set, List·getD-append}
-use lib.Seq.{sets, getD-at, drop-length, ext-getD, set-append-left, getD-set-same, getD-set-other}
+use lib.Seq.{getD-at, drop-length, ext-getD, set-append-left, getD-set-same, getD-set-other}
 use Rattle.laws.specs.Range.{joinTo}
 use Rattle.laws.specs.Room.{laid}
 use Rattle.laws.specs.Values.{listTo}
 use Rattle.laws.proofs.Ranges.{join-next, join-cong}
 use Rattle.laws.proofs.Rooms.{laid-next, laid-front}
-use Rattle.laws.proofs.Writes.{sets-append}
 
 module _ {A : Type 0} where
   pub list-next : (n : ℕ) (f : ℕ → A) → listTo (n + 1) f ≡ listTo n f ++ (f n ∷ [])
@@ -55,17 +54,6 @@ module _ {A : Type 0} where
 
   pub laid-at : (n i : ℕ) (f : ℕ → A) (room : List A) (d : A) → i < n → getD (laid (listTo n f) room) i d ≡ f i
   laid-at n i f room d l = laid-front (listTo n f) room i d (omega (arith, length-list n f)) ∙ list-at n i f d l
-
-  -- the values written into a room from any place on: none, and one more
-  pub sets-none : (f : ℕ → A) (room : List A) (i : ℕ) → sets room i (listTo 0 f) ≡ room
-  unfolding listTo joinTo
-  sets-none f room i = refl
-
-  pub sets-more : (n : ℕ) (f : ℕ → A) (room : List A) (i : ℕ) → set (sets room i (listTo n f)) (i + n) (f n) ≡ sets room i (listTo (n + 1) f)
-  sets-more n f room i =
-      ap (λ k. set (sets room i (listTo n f)) (i + k) (f n)) (sym (length-list n f))
-      ∙ sets-append room i (listTo n f) (f n ∷ [])
-      ∙ ap (sets room i) (sym (list-next n f))
 
   -- one value changed, there and nowhere else
   list-change : (n i : ℕ) (f g : ℕ → A) → i < n → ((k : ℕ) → (k ≡ i → ⊥) → g k ≡ f k) → set (listTo n f) i (g i) ≡ listTo n g

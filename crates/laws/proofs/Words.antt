@@ -1,16 +1,15 @@
--- The bits of words: of two words' and, or and exclusive or, of half a word, below a word's lowest set bit, and of a word shifted on.
+-- The bits of words: of two words' and, or and exclusive or, of half a word, and below a word's lowest set bit.
 use mathlib.Core.Path.{_≡_, refl, ap, sym, _∙_}
 use mathlib.Core.Bool.{Bool, true, false, _&&_, _||_, xor, true≢false}
 use Prim.Native.Nat.{ℕ, zero, suc, _+_, _*_, _/_, _%_, _^_, _<_, min, max}
-use native.Mathlib.Nat.{mod-lt, pow-suc, pow-zero, div-one, div-div-eq-div-mul, add-zero, add-suc}
+use native.Mathlib.Nat.{mod-lt, pow-suc, pow-zero}
 use native.Mathlib.Numerals.{add-one}
 use native.Mathlib.Omega.{arith}
 use lib.Bits.{bitAnd, bitOr, bitXor, differ, and-step, or-step, xor-step}
 use lib.Count.{trailingZeros, under}
 use lib.Dec.{eqb, lit<}
-use Rattle.laws.specs.Bits.{bit, halved}
+use Rattle.laws.specs.Bits.{bit}
 use Rattle.laws.proofs.Tests.{both, neither, alike}
-use Rattle.laws.proofs.Halves.{bit-halved}
 
 low-is : (q d : ℕ) → d < 2 → eqb ((q * 2 + d) % 2) 1 ≡ eqb d 1
 low-is q d h = let m : (q * 2 + d) % 2 ≡ d = omega arith in rw m
@@ -127,19 +126,3 @@ bit-lowest (suc width) n h z =
     go zero e l later = later (λ h. z (omega arith))
     go (suc zero) e l later = ap (λ r. eqb r 1) e
     go (suc (suc r)) e l later = absurd (omega arith)
-
--- halved i times and shifted on by k
-pub halved-more : (n i k : ℕ) → halved n i / 2 ^ k ≡ halved n (i + k)
-unfolding halved
-halved-more n i zero = rw (add-zero i) (div-one (halved n i))
-halved-more n i (suc k) =
-    rw (add-suc i k, pow-suc 2 k) (sym (div-div-eq-div-mul (halved n i) (2 ^ k) 2) ∙ ap (λ m. m / 2) (halved-more n i k))
-
--- the bits of a halved word
-halved-twice : (n i j : ℕ) → halved (halved n i) j ≡ halved n (i + j)
-unfolding halved
-halved-twice n i zero = rw (add-zero i)
-halved-twice n i (suc j) = rw (add-suc i j) (ap (λ m. m / 2) (halved-twice n i j))
-
-pub bit-of-halved : (n i j : ℕ) → bit (halved n i) j ≡ bit n (i + j)
-bit-of-halved n i j = bit-halved (halved n i) j ∙ ap (λ m. eqb (m % 2) 1) (halved-twice n i j) ∙ sym (bit-halved n (i + j))

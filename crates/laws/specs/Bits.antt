@@ -28,8 +28,3 @@ allRows (suc n) p = allRows n (λ bs. p (true ∷ bs)) && allRows n (λ bs. p (f
 unfoldable pub valuesFrom : (ℕ → Bool) → ℕ → ℕ → List Bool
 valuesFrom f x zero = []
 valuesFrom f x (suc n) = f x ∷ valuesFrom f (x + 1) n
-
--- the number halved i times: its bits from bit i on
-unfoldable pub halved : ℕ → ℕ → ℕ
-halved n zero = n
-halved n (suc i) = halved n i / 2

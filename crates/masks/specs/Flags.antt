@@ -1,13 +1,15 @@
 -- Flags, from which masks are gathered: a byte a sample, 1 where the sample is above and 0 where it is below.
+use mathlib.Core.Path.{_≡_}
 use mathlib.Core.List.{List}
 use mathlib.Core.Bool.{Bool, cond}
-use Prim.Native.Nat.{ℕ, _+_, _*_, _/_, _^_, _≤_}
+use Prim.Native.Nat.{ℕ, _+_, _*_, _/_, _^_, _<_, _≤_}
 use lib.Dec.{eqb, leb}
 use lib.ListN.{getD}
-use Rattle.laws.specs.Bits.{wordBits, bits, valuesFrom}
+use Rattle.laws.specs.Bits.{wordBits, bits, bit, valuesFrom}
 use Rattle.laws.specs.Range.{one-if}
 use Rattle.laws.specs.Values.{listTo}
 use Rattle.grid.specs.Grid.{isAboveGrey}
+use Rattle.masks.specs.Masks.{wordCubes, rowWords}
 
 -- samples that are flagged at a time, and the bytes of their flags: from each of them on a word can be gathered
 abbrev pub mostFlagged : ℕ
@@ -35,10 +37,12 @@ flagSet flags i = eqb (getD flags i 0) 1
 unfoldable pub flagMask : List ℕ → ℕ → ℕ → ℕ
 flagMask flags at n = bits (valuesFrom (flagSet flags) at n)
 
--- a row's mask is that of half a word's flags, or of a word's where it has more samples
+-- the mask of so many samples is that of half a word's flags, or of a word's where they are more
 abbrev pub gathered : ℕ → ℕ
-gathered nx = cond (leb nx (wordBits / 2)) (wordBits / 2) wordBits
+gathered many = cond (leb many (wordBits / 2)) (wordBits / 2) wordBits
 
--- the masks of so many rows of nx samples whose flags stand one after the other
-unfoldable pub rowMasks : List ℕ → ℕ → ℕ → List ℕ
-rowMasks flags nx many = listTo many (λ r. flagMask flags (nx * r) (gathered nx))
+-- The words of so many rows of nx samples, whose flags stand one after the other from `at` on, are written from place `from` on, and those before it are as they were.
+pub record Gathered (flags : List ℕ) (nx at rows from : ℕ) (entry exit : List ℕ) : Type 0 where
+  pub words : (r w i : ℕ) → r < rows → w < rowWords nx → i < wordBits → wordCubes * w + i < nx
+      → bit (getD exit (from + w + rowWords nx * r) 0) i ≡ flagSet flags (at + (wordCubes * w + i + nx * r))
+  pub before : (k : ℕ) → k < from → getD exit k 0 ≡ getD entry k 0

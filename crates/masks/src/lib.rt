@@ -1,14 +1,15 @@
-// Rows of samples as masks, so that a few operations on words say where in a row something is crossed.
+// Rows of samples in words of bits, so that a few operations on words say where in a row something is crossed.
 ghost use mathlib.Core.Path.{_≡_};
-ghost use Prim.Native.Nat.{_+_, _*_, _/_, _<_, _≤_, _^_};
+ghost use Prim.Native.Nat.{_+_, _*_, _-_, _/_, _<_, _≤_, _^_};
 ghost use lib.Dec.{leb};
 ghost use lib.ListN.{length, getD};
-ghost use lib.Seq.{sets};
 ghost use Rattle.laws.specs.Bits.{wordBits};
 ghost use Rattle.laws.specs.Range.{one-if};
 ghost use Rattle.laws.specs.Room.{laid};
-ghost use Rattle.masks.specs.Masks.{Masked, AllSet};
-ghost use Rattle.masks.specs.Flags.{mostFlagged, flagBytes, AreFlags, flagsFrom, fourBytes, flagMask, gathered, rowMasks};
+ghost use Rattle.masks.specs.Masks.{wordCubes, rowWords, lastSamples, Masked, AllSet};
+ghost use Rattle.masks.specs.Flags.{mostFlagged, flagBytes, AreFlags, flagsFrom, fourBytes, flagMask, gathered, Gathered};
+use grid::limits::MOST_ROWS;
+use grid::limits::MOST_SIDE;
 use laws::WORD_BITS;
 
 // Samples that are flagged at a time, and the bytes of their flags: from each of them on a word can be gathered.
@@ -17,6 +18,14 @@ const MOST_FLAGGED: usize = 1024;
 const FLAG_BYTES: usize = MOST_FLAGGED + WORD_BITS as usize;
 
 const HALF_WORD: usize = WORD_BITS as usize / 2;
+
+// Samples of a word, and its cubes along x: the last sample of a word is the next word's first.
+pub const WORD_SAMPLES: usize = WORD_BITS as usize;
+
+pub const WORD_CUBES: usize = WORD_SAMPLES - 1;
+
+// The words of a grid with the largest sides.
+pub const MOST_WORDS: usize = ((MOST_SIDE as usize - 2) / WORD_CUBES + 1) * MOST_ROWS;
 
 // One, two, three and four bytes up.
 const BYTE: u64 = 256;
@@ -92,56 +101,109 @@ fn half_mask(flags: &[u8; FLAG_BYTES], at: usize) -> u64
     low + TWO_BYTES * high
 }
 
-// The mask of a row whose flags stand from `at` on. Its bits past the row's end are flags of other rows.
-fn row_mask(flags: &[u8; FLAG_BYTES], at: usize, nx: usize) -> u64
+// The mask of so many samples, a word's at most, whose flags stand from `at` on. Its bits past them are flags of other samples.
+fn word_mask(flags: &[u8; FLAG_BYTES], at: usize, many: usize) -> u64
     requires { ⌜ at ≤ mostFlagged ⌝ }
     requires { ⌜ AreFlags (now flags) ⌝ }
-    ensures { λ r. ⌜ r ≡ flagMask (now (flags .entry)) at (gathered nx) ⌝ }
+    ensures { λ r. ⌜ r ≡ flagMask (now (flags .entry)) at (gathered many) ⌝ }
 {
     let low = half_mask(flags, at);
-    if nx <= HALF_WORD {
+    if many <= HALF_WORD {
         return low;
     }
     low + FOUR_BYTES * half_mask(flags, at + HALF_WORD)
 }
 
-// The masks of so many rows from row `from` on, whose flags stand one after the other.
-fn mask_rows(flags: &[u8; FLAG_BYTES], nx: usize, from: usize, many: usize, masks: &mut [u64])
-    requires { ⌜ nx * many ≤ mostFlagged ⌝ }
-    requires { ⌜ from + many ≤ length (now masks) ⌝ }
+// The words of a row whose flags stand from `at` on, from a place on. Answers the place after them.
+fn mask_row(flags: &[u8; FLAG_BYTES], nx: usize, at: usize, from: usize, masks: &mut [u64]) -> usize
+    requires { ⌜ (2 ≤ nx) × (at + nx ≤ mostFlagged) ⌝ }
     requires { ⌜ AreFlags (now flags) ⌝ }
-    ensures { λ _. ⌜ now (masks .exit) ≡ sets (now (masks .entry)) from (rowMasks (now (flags .entry)) nx many) ⌝ }
+    requires { ⌜ from + rowWords nx ≤ length (now masks) ⌝ }
+    ensures { λ r. ⌜ r ≡ from + rowWords nx ⌝ }
+    ensures { λ r. ⌜ Gathered (now (flags .entry)) nx at 1 from (now (masks .entry)) (now (masks .exit)) ⌝ }
 {
-    let mut at = 0;
-    for r in 0..many {
-        masks[from + r] = row_mask(flags, at, nx);
-        at += nx;
+    let mut left = nx;
+    let mut to = from;
+    while WORD_SAMPLES < left {
+        masks[to] = word_mask(flags, at + (nx - left), WORD_SAMPLES);
+        left -= WORD_CUBES;
+        to += 1;
     }
+    masks[to] = word_mask(flags, at + (nx - left), left);
+    to + 1
 }
 
-// The masks of all rows. Many rows are flagged before the first of them is gathered: what was stored just before in another width is read late.
+// The words of so many rows whose flags stand one after the other, from a place on. Answers the place after them.
+fn mask_rows(
+    flags: &[u8; FLAG_BYTES],
+    nx: usize,
+    many: usize,
+    from: usize,
+    masks: &mut [u64],
+) -> usize
+    requires { ⌜ (2 ≤ nx) × (nx * many ≤ mostFlagged) ⌝ }
+    requires { ⌜ AreFlags (now flags) ⌝ }
+    requires { ⌜ from + rowWords nx * many ≤ length (now masks) ⌝ }
+    ensures { λ r. ⌜ r ≡ from + rowWords nx * many ⌝ }
+    ensures { λ r. ⌜ Gathered (now (flags .entry)) nx 0 many from (now (masks .entry)) (now (masks .exit)) ⌝ }
+{
+    let mut at = 0;
+    let mut to = from;
+    for _ in 0..many {
+        to = mask_row(flags, nx, at, to, masks);
+        at += nx;
+    }
+    to
+}
+
+// The words of all rows. Many rows are flagged before the first of them is gathered: what was stored just before in another width is read late.
 pub fn fill(samples: &[u16], nx: usize, rows: usize, grey: u16, masks: &mut [u64])
-    requires { ⌜ (nx ≤ wordBits) × (rows ≤ length (now masks)) × (length (now samples) ≡ nx * rows) × (0 < nx) ⌝ }
+    requires { ⌜ (2 ≤ nx) × (nx ≤ mostFlagged) × (rowWords nx * rows ≤ length (now masks)) × (length (now samples) ≡ nx * rows) ⌝ }
     ensures { λ _. ⌜ Masked nx rows grey (now (samples .entry)) (now (masks .exit)) ⌝ }
 {
     let mut flags = [0u8; FLAG_BYTES];
     let most = MOST_FLAGGED / nx;
     let mut r = 0;
+    let mut to = 0;
     while r < rows {
         let many = rooms::least(most, rows - r);
         flag_samples(samples, nx * r, nx * many, grey, &mut flags);
-        mask_rows(&flags, nx, r, many, masks);
+        to = mask_rows(&flags, nx, many, to, masks);
         r += many;
     }
 }
 
-// The mask of a row of nx samples that are all above.
-pub fn full_mask(nx: usize) -> u64
-    requires { ⌜ nx ≤ wordBits ⌝ }
-    ensures { λ r. ⌜ AllSet nx r ⌝ }
+// How many words a row of nx samples has before its last.
+fn words_before(nx: usize) -> usize
+    requires { ⌜ 2 ≤ nx ⌝ }
+    ensures { λ r. ⌜ r ≡ (nx - 2) / wordCubes ⌝ }
+{
+    (nx - 2) / WORD_CUBES
+}
+
+// How many words a row of nx samples has.
+pub fn row_words(nx: usize) -> usize
+    requires { ⌜ 2 ≤ nx ⌝ }
+    ensures { λ r. ⌜ r ≡ rowWords nx ⌝ }
+{
+    words_before(nx) + 1
+}
+
+// The mask of the samples of a row's last word.
+pub fn last_mask(nx: usize) -> u64
+    requires { ⌜ 2 ≤ nx ⌝ }
+    ensures { λ r. ⌜ AllSet (lastSamples nx) r ⌝ }
+{
+    full_mask(nx - WORD_CUBES * words_before(nx))
+}
+
+// The mask of n samples that are all above.
+fn full_mask(n: usize) -> u64
+    requires { ⌜ n ≤ wordBits ⌝ }
+    ensures { λ r. ⌜ AllSet n r ⌝ }
 {
     let mut full = 0;
-    for _ in 0..nx {
+    for _ in 0..n {
         full = 2 * full + 1;
     }
     full

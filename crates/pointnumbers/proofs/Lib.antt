@@ -1,2 +1,3 @@
--- Steps of the numbering.
+-- Steps of the numbering, and the walk of a stretch.
 pub mod Numbering
+pub mod Walk

@@ -1,11 +1,11 @@
-// The points of a grid, numbered row by row from the masks of its rows.
+// The points of a grid, numbered layer by layer from the words of its rows.
 ghost use mathlib.Core.Path.{_≡_};
 ghost use Prim.Native.Nat.{_*_, _≤_};
 ghost use lib.ListN.{length};
 ghost use Rattle.grid.specs.Grid.{axes, edgeCount};
 ghost use Rattle.grid.specs.Point.{pointEdges};
 ghost use Rattle.grid.specs.Work.{size, SidesFit, Numbered};
-ghost use Rattle.masks.specs.Masks.{maskAbove};
+ghost use Rattle.masks.specs.Masks.{rowWords, maskAbove, Agreeing};
 
 mod numbers;
 
@@ -15,7 +15,8 @@ use rows::Sides;
 // Writes the number of its point at each crossed edge of the work room, and answers how many points there are.
 pub fn number(nx: usize, ny: usize, nz: usize, masks: &[u64], work: &mut [u32]) -> u32
     requires { ⌜ SidesFit nx ny nz ⌝ }
-    requires { ⌜ ny * nz ≤ length (now masks) ⌝ }
+    requires { ⌜ rowWords nx * (ny * nz) ≤ length (now masks) ⌝ }
+    requires { ⌜ Agreeing nx (ny * nz) (now masks) ⌝ }
     requires { ⌜ length (now work) ≡ edgeCount axes (size nx ny nz) ⌝ }
     ensures counted { λ r. ⌜ r ≡ length (pointEdges axes (size nx ny nz) (maskAbove nx (now (masks .entry)))) ⌝ }
     ensures numbered { λ r. ⌜ Numbered (size nx ny nz) (maskAbove nx (now (masks .entry))) (now (work .exit)) ⌝ }
@@ -24,7 +25,8 @@ pub fn number(nx: usize, ny: usize, nz: usize, masks: &[u64], work: &mut [u32]) 
         nx,
         ny,
         nz,
-        full: masks::full_mask(nx),
+        words: masks::row_words(nx),
+        last: masks::last_mask(nx),
     };
     let mut n: u32 = 0;
     let mut z: usize = 0;

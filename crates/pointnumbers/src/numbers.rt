@@ -1,16 +1,15 @@
-// The points' numbers, written row by row at their grid edges.
+// The points' numbers, written at their grid edges, stretch by stretch.
 ghost use mathlib.Core.Path.{_≡_};
-ghost use Prim.Native.Nat.{_+_, _<_, _≤_};
+ghost use Prim.Native.Nat.{_+_, _*_, _<_, _≤_};
 ghost use lib.ListN.{length, set};
+ghost use Rattle.laws.specs.Bits.{wordBits};
 ghost use Rattle.grid.specs.Limits.{mostEdges};
-ghost use Rattle.rows.specs.Rows.{Ready, firstEdge, nextNumber};
+ghost use Rattle.rows.specs.Rows.{Ready, Stands, ownSamples, layerFirst, nextNumber};
 ghost use Rattle.pointnumbers.specs.Numbers.{SampleNumbered, NumberedTo};
 use rows::Cuts;
 use rows::Sides;
-use rows::busy_word;
-use rows::cuts_at;
-use rows::passed;
-use rows::row_at;
+use rows::Stretch;
+use rows::is_set;
 
 // Writes the next number at an edge, and answers the number after it: the same one again where the edge is not crossed.
 fn number_edge(cut: bool, e: usize, n: u32, work: &mut [u32]) -> u32
@@ -24,54 +23,59 @@ fn number_edge(cut: bool, e: usize, n: u32, work: &mut [u32]) -> u32
     if cut { n + 1 } else { n }
 }
 
-// The same at the three edges that leave a sample, of which e is the first.
-fn number_sample(cuts: Cuts, e: usize, n: u32, work: &mut [u32]) -> u32
+// The same at the three edges that leave sample i of a stretch, of which e is the first.
+fn number_sample(cuts: Cuts, i: u32, e: usize, n: u32, work: &mut [u32]) -> u32
+    requires { ⌜ i < wordBits ⌝ }
     requires { ⌜ n ≤ e ⌝ }
     requires { ⌜ e + 2 < length (now work) ⌝ }
     requires { ⌜ length (now work) ≤ mostEdges ⌝ }
-    ensures { λ r. ⌜ SampleNumbered cuts e n r (now (work .entry)) (now (work .exit)) ⌝ }
+    ensures { λ r. ⌜ SampleNumbered cuts i e n r (now (work .entry)) (now (work .exit)) ⌝ }
 {
-    let past_x = number_edge(cuts.x, e, n, work);
-    let past_y = number_edge(cuts.y, e + 1, past_x, work);
-    number_edge(cuts.z, e + 2, past_y, work)
+    let past_x = number_edge(is_set(cuts.x, i), e, n, work);
+    let past_y = number_edge(is_set(cuts.y, i), e + 1, past_x, work);
+    number_edge(is_set(cuts.z, i), e + 2, past_y, work)
 }
 
-// The points of one row, from a number on, at one busy sample after the other. Answers the number after the last.
-fn number_row(sides: Sides, y: usize, z: usize, from: u32, masks: &[u64], work: &mut [u32]) -> u32
+// The points of a stretch's own samples, from a number on, at one busy sample after the other. Answers the number after the last.
+fn number_stretch(
+    sides: Sides,
+    at: Stretch,
+    z: usize,
+    from: u32,
+    masks: &[u64],
+    work: &mut [u32],
+) -> u32
     requires { ⌜ Ready sides (now masks) ⌝ }
-    requires { ⌜ y < sides .ny ⌝ }
+    requires { ⌜ Stands sides z at ⌝ }
+    requires { ⌜ at .y < sides .ny ⌝ }
     requires { ⌜ z < sides .nz ⌝ }
-    requires { ⌜ NumberedTo sides (now masks) (firstEdge sides y z) from (now work) ⌝ }
-    ensures { λ r. ⌜ NumberedTo sides (now (masks .entry)) (firstEdge sides (y + 1) z) r (now (work .exit)) ⌝ }
+    requires { ⌜ NumberedTo sides (now masks) (3 * at .s) from (now work) ⌝ }
+    ensures { λ r. ⌜ NumberedTo sides (now (masks .entry)) (3 * (at .s + ownSamples (at .left))) r (now (work .exit)) ⌝ }
 {
-    let row = row_at(sides, y, z, masks);
-    let first = 3 * (sides.nx * (y + sides.ny * z));
-    let mut busy = busy_word(row, sides.full);
+    let cuts = rows::cuts_at(sides, at, z, masks);
+    let mut busy = cuts.x | cuts.y | cuts.z;
     let mut n = from;
-    let mut next: usize = 0;
     while busy != 0 {
-        let skip = u64::trailing_zeros(busy) as usize;
-        let x = next + skip;
-        let cuts = cuts_at(x + 1 < sides.nx, passed(row, x));
-        n = number_sample(cuts, first + 3 * x, n, work);
-        busy = (busy >> skip) / 2;
-        next = x + 1;
+        let i = u64::trailing_zeros(busy);
+        let e = 3 * (at.s + (i as usize));
+        n = number_sample(cuts, i, e, n, work);
+        busy = busy & (busy - 1);
     }
     n
 }
 
-// The points of one layer, row by row.
+// The points of one layer.
 pub fn number_layer(sides: Sides, z: usize, from: u32, masks: &[u64], work: &mut [u32]) -> u32
     requires { ⌜ Ready sides (now masks) ⌝ }
     requires { ⌜ z < sides .nz ⌝ }
-    requires { ⌜ NumberedTo sides (now masks) (firstEdge sides 0 z) from (now work) ⌝ }
-    ensures { λ r. ⌜ NumberedTo sides (now (masks .entry)) (firstEdge sides 0 (z + 1)) r (now (work .exit)) ⌝ }
+    requires { ⌜ NumberedTo sides (now masks) (3 * layerFirst sides z) from (now work) ⌝ }
+    ensures { λ r. ⌜ NumberedTo sides (now (masks .entry)) (3 * layerFirst sides (z + 1)) r (now (work .exit)) ⌝ }
 {
     let mut n = from;
-    let mut y: usize = 0;
-    while y < sides.ny {
-        n = number_row(sides, y, z, n, masks, work);
-        y += 1;
+    let mut at = rows::first(sides, z);
+    while at.y < sides.ny {
+        n = number_stretch(sides, at, z, n, masks, work);
+        at = rows::next(sides, at);
     }
     n
 }

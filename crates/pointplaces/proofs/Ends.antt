@@ -8,49 +8,52 @@ use native.Mathlib.Omega.{arith}
 use lib.Dec.{leb, ltb}
 use lib.ListN.{getD}
 use borrow.Author.Tests.{ltb-true}
+use Rattle.laws.specs.Bits.{bit}
 use Rattle.laws.specs.Range.{one-if}
 use Rattle.laws.proofs.Tests.{both}
 use Rattle.laws.proofs.Keep.{rank-lt}
-use Rattle.grid.specs.Grid.{site, axes, sampleCount, edgeCount, crossed, isAboveGrey}
+use Rattle.grid.specs.Grid.{site, axes, sampleCount, edgeCount, isAboveGrey}
 use Rattle.grid.specs.Point.{number}
 use Rattle.grid.proofs.Crossings.{step-x, step-y, step-z, crossed-x, crossed-y, crossed-z}
 use Rattle.masks.specs.Masks.{maskAbove}
 use Rattle.rows.specs.declared.Sides.{Sides}
 use Rattle.rows.specs.declared.Cuts.{Cuts}
-use Rattle.rows.specs.Rows.{sizeOf, nextNumber}
+use Rattle.rows.specs.Rows.{sizeOf, cut, nextNumber}
 use Rattle.edgepoints.specs.EdgePoint.{PointRooms, RoomsFor, stepOf, Placeable}
 use Rattle.pointplaces.specs.Places.{SamplePlaceable, Given, countBelow, countAll}
-use Rattle.rows.proofs.Bounds.{sample-small}
-use Rattle.rows.proofs.Cut.{Tested, same-ends}
-use Rattle.pointplaces.proofs.Placing.{count-next-edge}
+use Rattle.masks.proofs.Above.{told-above}
+use Rattle.rows.proofs.Stretches.{sample-small}
+use Rattle.rows.proofs.Cut.{same-ends}
+use Rattle.pointplaces.proofs.Placing.{BitsTested, count-next-edge}
 
 module _ (sides : Sides) (grey : ℕ) (samples masks : List ℕ) (given : Given sides grey samples masks) where
   abbrev above : ℕ → Bool
   above = maskAbove (sides .nx) masks
 
-  abbrev cut : ℕ → Bool
-  cut = crossed axes (sizeOf sides) above
+  -- the words say of each sample whether it is above
+  above-is : (t : ℕ) → t < sampleCount (sizeOf sides) → above t ≡ isAboveGrey grey samples t
+  above-is t l = told-above (sides .nx) (sides .ny * sides .nz) (isAboveGrey grey samples) masks (given .ready .fit .least-x) (given .masked) t l
 
   -- where one sample is above and another is not, they differ
   differ : (t u : ℕ) → t < sampleCount (sizeOf sides) → u < sampleCount (sizeOf sides) → xor (above t) (above u) ≡ true
       → getD samples t 0 ≡ getD samples u 0 → ⊥
   unfolding isAboveGrey
   differ t u ht hu apart same =
-      let alike : above t ≡ above u = given .masked t ht ∙ ap (leb grey) same ∙ sym (given .masked u hu) in
+      let alike : above t ≡ above u = above-is t ht ∙ ap (leb grey) same ∙ sym (above-is u hu) in
       false≢true (sym (same-ends (above t)) ∙ ap (xor (above t)) alike ∙ apart)
 
   -- there is room for the point of a crossed edge
-  room : (e n : ℕ) (r : PointRooms) → e < edgeCount axes (sizeOf sides) → cut e ≡ true → n ≡ countBelow sides masks e
+  room : (e n : ℕ) (r : PointRooms) → e < edgeCount axes (sizeOf sides) → cut sides masks e ≡ true → n ≡ countBelow sides masks e
       → RoomsFor (countAll sides masks) r → RoomsFor (n + 1) r
   unfolding number
   room e n r l h counted fits =
-      let less : countBelow sides masks e < countAll sides masks = rank-lt (edgeCount axes (sizeOf sides)) e cut l h in
+      let less : countBelow sides masks e < countAll sides masks = rank-lt (edgeCount axes (sizeOf sides)) e (cut sides masks) l h in
       record { points = omega (arith, fits .points); edges = omega (arith, fits .edges); marks = omega (arith, fits .marks) }
 
   -- the point of a crossed edge e, which leaves sample s along an axis, can be placed
   placeable : (s axis step e n : ℕ) (there : Bool) (r : PointRooms) → s < sampleCount (sizeOf sides) → stepOf (sizeOf sides) axis ≡ step
-      → (there ≡ true → s + step < sampleCount (sizeOf sides)) → cut e ≡ (there && xor (above s) (above (s + step)))
-      → e < edgeCount axes (sizeOf sides) → n ≡ countBelow sides masks e → RoomsFor (countAll sides masks) r → cut e ≡ true
+      → (there ≡ true → s + step < sampleCount (sizeOf sides)) → cut sides masks e ≡ (there && xor (above s) (above (s + step)))
+      → e < edgeCount axes (sizeOf sides) → n ≡ countBelow sides masks e → RoomsFor (countAll sides masks) r → cut sides masks e ≡ true
       → Placeable (sizeOf sides) samples s axis n r
   placeable s axis step e n there r small is other tested l counted fits crossed-here =
       let t = both there (xor (above s) (above (s + step))) (sym tested ∙ crossed-here) in
@@ -82,14 +85,15 @@ module _ (sides : Sides) (grey : ℕ) (samples masks : List ℕ) (given : Given 
         let q : y + sides .ny * (z + 1) ≡ y + sides .ny * z + sides .ny = omega (arith, mul-add (sides .ny) z 1, mul-one (sides .ny)) in
         omega (arith, rw q at (sample-small sides y (z + 1) hy (ltb-true _ _ h) x hx), mul-add (sides .nx) (y + sides .ny * z) (sides .ny))
 
-    at-sample : (n : ℕ) (cuts : Cuts) (r : PointRooms) → n ≡ countBelow sides masks (3 * s) → Tested sides masks (3 * s) cuts → RoomsFor (countAll sides masks) r
-        → SamplePlaceable sides samples s n cuts r
+    at-sample : (n : ℕ) (cuts : Cuts) (i : ℕ) (r : PointRooms) → n ≡ countBelow sides masks (3 * s)
+        → BitsTested sides masks s cuts i → RoomsFor (countAll sides masks) r
+        → SamplePlaceable sides samples s n cuts i r
     unfolding site
-    at-sample n cuts r counted by fits =
+    at-sample n cuts i r counted by fits =
         let size = sizeOf sides in
-        let one : nextNumber (cuts .x) n ≡ countBelow sides masks (3 * s + 1) = omega (arith, counted, count-next-edge sides grey samples masks (3 * s), ap one-if (by .along-x)) in
+        let one : nextNumber (bit (cuts .x) i) n ≡ countBelow sides masks (3 * s + 1) = omega (arith, counted, count-next-edge sides grey samples masks (3 * s), ap one-if (by .along-x)) in
         let step : 3 * s + 1 + 1 ≡ 3 * s + 2 = omega arith in
-        let two : nextNumber (cuts .y) (nextNumber (cuts .x) n) ≡ countBelow sides masks (3 * s + 2)
+        let two : nextNumber (bit (cuts .y) i) (nextNumber (bit (cuts .x) i) n) ≡ countBelow sides masks (3 * s + 2)
         = omega (arith, one, rw step at (count-next-edge sides grey samples masks (3 * s + 1)), ap one-if (by .along-y)) in
         record {
           along-x = λ h.
@@ -112,7 +116,7 @@ module _ (sides : Sides) (grey : ℕ) (samples masks : List ℕ) (given : Given 
               (by .along-z ∙ h);
         }
 
-    pub sample-placeable : (at e n : ℕ) (cuts : Cuts) (r : PointRooms) → at ≡ s → e ≡ 3 * s → n ≡ countBelow sides masks e → Tested sides masks e cuts
-        → RoomsFor (countAll sides masks) r → SamplePlaceable sides samples at n cuts r
-    sample-placeable at e n cuts r is edge counted by fits =
-        rw is (at-sample n cuts r (rw edge at counted) (rw edge at by) fits)
+    pub sample-placeable : (at n : ℕ) (cuts : Cuts) (i : ℕ) (r : PointRooms) → at ≡ s → n ≡ countBelow sides masks (3 * at)
+        → BitsTested sides masks at cuts i → RoomsFor (countAll sides masks) r
+        → SamplePlaceable sides samples at n cuts i r
+    sample-placeable at n cuts i r is counted by fits = rw is (at-sample n cuts i r (rw is at counted) (rw is at by) fits)

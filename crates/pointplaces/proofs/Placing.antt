@@ -2,25 +2,26 @@
 use mathlib.Core.Path.{_≡_, refl, ap, fun-ext, _∙_}
 use mathlib.Core.List.{List, [], _∷_, _++_, map, flatMap, map-append, map-map, map-id, append-nil}
 use mathlib.Core.Bool.{Bool, true, false, cond}
-use Prim.Native.Nat.{ℕ, _+_, _*_, _/_, _%_, _<_, _≤_}
+use Prim.Native.Nat.{ℕ, _+_, _*_, _-_, _/_, _%_, _<_, _≤_}
 use native.Mathlib.Omega.{arith}
 use lib.ListN.{length, length-map}
 use lib.Seq.{sets}
+use Rattle.laws.specs.Bits.{bit}
 use Rattle.laws.specs.Range.{one-if, sumTo, countTo, joinTo, keepTo}
 use Rattle.laws.specs.Room.{laid}
 use Rattle.laws.proofs.Keep.{length-keep, keep-next, count-next}
 use Rattle.laws.proofs.Ranges.{count-split, length-flat, count-none, keep-none}
 use Rattle.laws.proofs.Writes.{sets-front, flat-sets, map-sets}
-use Rattle.grid.specs.Grid.{Size, axes, edgeCount, crossed, mark, onFace}
+use Rattle.grid.specs.Grid.{Size, axes, edgeCount, mark, onFace}
 use Rattle.grid.specs.Point.{number, pointEdges, place, placeFrom}
 use Rattle.masks.specs.Masks.{maskAbove}
 use Rattle.rows.specs.declared.Sides.{Sides}
 use Rattle.rows.specs.declared.Cuts.{Cuts}
 use Rattle.edgepoints.specs.declared.Point.{Point}
-use Rattle.rows.specs.Rows.{sizeOf, nextNumber}
+use Rattle.rows.specs.Rows.{sizeOf, cut, nextNumber}
 use Rattle.edgepoints.specs.EdgePoint.{PointRooms, coordinates, placedFrom, withPlaced, pointBy, pointFrom, RoomsFor, Placeable}
 use Rattle.pointplaces.specs.Places.{pointAt, pointsBelow, countBelow, SamplePlaced, Advanced}
-use Rattle.rows.proofs.Cut.{Tested}
+use Rattle.rows.proofs.Busy.{Tested}
 use Rattle.laws.proofs.Lists.{flat-map}
 
 -- rooms that keep their lengths keep their room
@@ -39,13 +40,18 @@ pub still-placeable : (size : Size) (samples : List ℕ) (s axis n next : ℕ) (
 still-placeable size samples s axis n next before after same is able =
     rw is record { there = able .there; differ = able .differ; room = room-kept (n + 1) before after same (able .room) }
 
--- the three edges of a sample one after the other
-pub sample-steps : (sides : Sides) (grey : ℕ) (samples : List ℕ) (s n : ℕ) (cuts : Cuts) (r : PointRooms) (x y z : ℕ) (past-x past-y past-z : PointRooms)
-    → x ≡ nextNumber (cuts .x) n → past-x ≡ withPlaced (cuts .x) n (pointFrom (sizeOf sides) grey samples s 0) r
-    → y ≡ nextNumber (cuts .y) x → past-y ≡ withPlaced (cuts .y) x (pointFrom (sizeOf sides) grey samples s 1) past-x
-    → z ≡ nextNumber (cuts .z) y → past-z ≡ withPlaced (cuts .z) y (pointFrom (sizeOf sides) grey samples s 2) past-y
-    → SamplePlaced sides grey samples s n z cuts r past-z
-sample-steps sides grey samples s n cuts r x y z past-x past-y past-z nx px ny py nz pz = record { counted = cc; placed = cc }
+-- the three edges that leave sample s are crossed as bit i of each word says
+abbrev pub BitsTested : Sides → List ℕ → ℕ → Cuts → ℕ → Type 0
+BitsTested sides masks s cuts i = Tested sides masks (3 * s) (bit (cuts .x) i) (bit (cuts .y) i) (bit (cuts .z) i)
+
+-- the three edges of a sample one after the other, by the tests of its bits
+pub sample-steps : (sides : Sides) (grey : ℕ) (samples : List ℕ) (s n : ℕ) (cuts : Cuts) (i : ℕ) (r : PointRooms) (bx by bz : Bool) (x y z : ℕ) (past-x past-y past-z : PointRooms)
+    → bx ≡ bit (cuts .x) i → by ≡ bit (cuts .y) i → bz ≡ bit (cuts .z) i
+    → x ≡ nextNumber bx n → past-x ≡ withPlaced bx n (pointFrom (sizeOf sides) grey samples s 0) r
+    → y ≡ nextNumber by x → past-y ≡ withPlaced by x (pointFrom (sizeOf sides) grey samples s 1) past-x
+    → z ≡ nextNumber bz y → past-z ≡ withPlaced bz y (pointFrom (sizeOf sides) grey samples s 2) past-y
+    → SamplePlaced sides grey samples s n z cuts i r past-z
+sample-steps sides grey samples s n cuts i r bx by bz x y z past-x past-y past-z sx sy sz nx px ny py nz pz = record { counted = cc; placed = cc }
 
 -- points written after others
 written-append : (r : PointRooms) (n next : ℕ) (ps qs : List Point) → next ≡ n + length ps → placedFrom (placedFrom r n ps) next qs ≡ placedFrom r n (ps ++ qs)
@@ -56,10 +62,12 @@ written-append r n next ps qs is = λ i. record {
   marks = map-sets (λ p. p .mark) (r .marks) n next ps qs is i;
 }
 
-module _ (sides : Sides) (grey : ℕ) (samples masks : List ℕ) where
-  abbrev cut : ℕ → Bool
-  cut = crossed axes (sizeOf sides) (maskAbove (sides .nx) masks)
+-- one run of edges after another
+pub advanced-on : {sides : Sides} {grey : ℕ} {samples masks : List ℕ} {a b c m n : ℕ} {r s t : PointRooms} → Advanced sides grey samples masks a b m r s
+    → Advanced sides grey samples masks b c n s t → Advanced sides grey samples masks a c n r t
+advanced-on one two = record { counted = two .counted; placed = λ origin held. two .placed origin (one .placed origin held) }
 
+module _ (sides : Sides) (grey : ℕ) (samples masks : List ℕ) where
   abbrev below : ℕ → List Point
   below = pointsBelow sides grey samples masks
 
@@ -69,46 +77,49 @@ module _ (sides : Sides) (grey : ℕ) (samples masks : List ℕ) where
   -- as many as were counted, and one edge more
   length-below : (e : ℕ) → length (below e) ≡ countBelow sides masks e
   unfolding pointsBelow number
-  length-below e = length-map (keepTo e cut) point ∙ length-keep e cut
+  length-below e = length-map (keepTo e (cut sides masks)) point ∙ length-keep e (cut sides masks)
 
-  below-next : (e : ℕ) (b : Bool) → cut e ≡ b → below (e + 1) ≡ below e ++ cond b (point e ∷ []) []
+  below-next : (e : ℕ) (b : Bool) → cut sides masks e ≡ b → below (e + 1) ≡ below e ++ cond b (point e ∷ []) []
   unfolding pointsBelow
-  below-next e true is = ap (map point) (keep-next e cut) ∙ rw is (map-append point (keepTo e cut) (e ∷ []))
-  below-next e false is = ap (map point) (keep-next e cut) ∙ rw is (map-append point (keepTo e cut) [])
+  below-next e true is = ap (map point) (keep-next e (cut sides masks)) ∙ rw is (map-append point (keepTo e (cut sides masks)) (e ∷ []))
+  below-next e false is = ap (map point) (keep-next e (cut sides masks)) ∙ rw is (map-append point (keepTo e (cut sides masks)) [])
 
-  pub count-next-edge : (e : ℕ) → countBelow sides masks (e + 1) ≡ nextNumber (cut e) (countBelow sides masks e)
+  pub count-next-edge : (e : ℕ) → countBelow sides masks (e + 1) ≡ nextNumber (cut sides masks e) (countBelow sides masks e)
   unfolding number
-  count-next-edge e = count-next e cut
+  count-next-edge e = count-next e (cut sides masks)
 
   -- an edge is passed
-  edge-passed : (e past n : ℕ) (r : PointRooms) (b : Bool) (p : Point) → past ≡ e + 1 → n ≡ countBelow sides masks e → cut e ≡ b → p ≡ point e
+  edge-passed : (e past n : ℕ) (r : PointRooms) (b : Bool) (p : Point) → past ≡ e + 1 → n ≡ countBelow sides masks e → cut sides masks e ≡ b → p ≡ point e
       → Advanced sides grey samples masks e past (nextNumber b n) r (withPlaced b n p r)
   edge-passed e past n r b p next counted is here = rw next record {
     counted = omega (arith, count-next-edge e, ap one-if is, counted);
     placed = λ origin held. placed b is origin held;
   }
     where
-      placed : (b : Bool) → cut e ≡ b → (origin : PointRooms) → r ≡ placedFrom origin 0 (below e) → withPlaced b n p r ≡ placedFrom origin 0 (below (e + 1))
+      placed : (b : Bool) → cut sides masks e ≡ b → (origin : PointRooms) → r ≡ placedFrom origin 0 (below e) → withPlaced b n p r ≡ placedFrom origin 0 (below (e + 1))
       placed true is origin held =
           rw (held, here, below-next e true is) (written-append origin 0 n (below e) (point e ∷ []) (omega (arith, counted, length-below e)))
       placed false is origin held = rw (below-next e false is, append-nil) held
 
   -- a run of edges that are not crossed is passed
-  pub none-passed : (e n : ℕ) (r : PointRooms) → n ≡ countBelow sides masks e → (len : ℕ) → ((i : ℕ) → i < len → cut (e + i) ≡ false)
+  none-passed : (e n : ℕ) (r : PointRooms) → n ≡ countBelow sides masks e → (len : ℕ) → ((i : ℕ) → i < len → cut sides masks (e + i) ≡ false)
       → Advanced sides grey samples masks e (e + len) n r r
   unfolding pointsBelow number
   none-passed e n r counted len none = record {
-    counted = omega (arith, counted, count-split e len cut, count-none len (λ i. cut (e + i)) none);
-    placed = λ origin held. rw (keep-none e len cut none) held;
+    counted = omega (arith, counted, count-split e len (cut sides masks), count-none len (λ i. cut sides masks (e + i)) none);
+    placed = λ origin held. rw (keep-none e len (cut sides masks) none) held;
   }
 
-  -- no edge, and one run after another
+  -- the samples from x up to t are passed, of which no edge is crossed
+  pub samples-passed : (first s x t n : ℕ) (r after : PointRooms) → x ≤ t → Advanced sides grey samples masks first (3 * (s + x)) n r after
+      → ((i : ℕ) → i < 3 * (t - x) → cut sides masks (3 * (s + x) + i) ≡ false) → Advanced sides grey samples masks first (3 * (s + t)) n r after
+  samples-passed first s x t n r after h so none =
+      let q : 3 * (s + t) ≡ 3 * (s + x) + 3 * (t - x) = omega arith in
+      rw q (advanced-on so (none-passed (3 * (s + x)) n after (so .counted) (3 * (t - x)) none))
+
+  -- no edge is passed
   pub advanced-none : (e n : ℕ) (r : PointRooms) → n ≡ countBelow sides masks e → Advanced sides grey samples masks e e n r r
   advanced-none e n r counted = record { counted = counted; placed = λ origin held. held }
-
-  pub advanced-on : (a b c m n : ℕ) (r s t : PointRooms) → Advanced sides grey samples masks a b m r s → Advanced sides grey samples masks b c n s t
-      → Advanced sides grey samples masks a c n r t
-  advanced-on a b c m n r s t one two = record { counted = two .counted; placed = λ origin held. two .placed origin (one .placed origin held) }
 
   -- the three edges that leave a sample
   point-of : (s axis e : ℕ) → axis < 3 → e ≡ 3 * s + axis → pointFrom (sizeOf sides) grey samples s axis ≡ point e
@@ -118,18 +129,21 @@ module _ (sides : Sides) (grey : ℕ) (samples masks : List ℕ) where
       let along : e % 3 ≡ axis = omega arith in
       rw (sample, along)
 
-  pub sample-passed : (s e n next : ℕ) (cuts : Cuts) (r after : PointRooms) → e ≡ 3 * s → n ≡ countBelow sides masks e → Tested sides masks e cuts
-      → SamplePlaced sides grey samples s n next cuts r after → Advanced sides grey samples masks e (e + 3) next r after
-  sample-passed s e n next cuts r after is counted by step =
+  pub sample-passed : (s n next : ℕ) (cuts : Cuts) (i : ℕ) (r after : PointRooms) → n ≡ countBelow sides masks (3 * s)
+      → BitsTested sides masks s cuts i
+      → SamplePlaced sides grey samples s n next cuts i r after → Advanced sides grey samples masks (3 * s) (3 * (s + 1)) next r after
+  sample-passed s n next cuts i r after counted by step =
+      let e = 3 * s in
+      let past = 3 * (s + 1) in
       let px = point-of s 0 e (omega arith) (omega arith) in
       let py = point-of s 1 (e + 1) (omega arith) (omega arith) in
       let pz = point-of s 2 (e + 2) (omega arith) (omega arith) in
       let two : e + 2 ≡ e + 1 + 1 = omega arith in
-      let three : e + 3 ≡ e + 2 + 1 = omega arith in
-      let x = edge-passed e (e + 1) n r (cuts .x) _ refl counted (by .along-x) px in
-      let y = edge-passed (e + 1) (e + 2) _ _ (cuts .y) _ two (x .counted) (by .along-y) py in
-      let z = edge-passed (e + 2) (e + 3) _ _ (cuts .z) _ three (y .counted) (by .along-z) pz in
-      rw (step .counted, step .placed) (advanced-on e (e + 1) (e + 3) _ _ r _ _ x (advanced-on (e + 1) (e + 2) (e + 3) _ _ _ _ _ y z))
+      let three : past ≡ e + 2 + 1 = omega arith in
+      let x = edge-passed e (e + 1) n r (bit (cuts .x) i) _ refl counted (by .along-x) px in
+      let y = edge-passed (e + 1) (e + 2) _ _ (bit (cuts .y) i) _ two (x .counted) (by .along-y) py in
+      let z = edge-passed (e + 2) past _ _ (bit (cuts .z) i) _ three (y .counted) (by .along-z) pz in
+      rw (step .counted, step .placed) (advanced-on x (advanced-on y z))
 
   -- before the first edge
   pub none-below : 0 ≡ countBelow sides masks 0
@@ -150,7 +164,7 @@ module _ (sides : Sides) (grey : ℕ) (samples masks : List ℕ) where
   -- the rooms hold as many points as there are crossed edges
   pub room-for-all : (r : PointRooms) → RoomsFor (length (pointEdges axes (sizeOf sides) (maskAbove (sides .nx) masks))) r → RoomsFor (countBelow sides masks (edgeCount axes (sizeOf sides))) r
   unfolding pointEdges number
-  room-for-all r fits = rw (length-keep (edgeCount axes (sizeOf sides)) cut) at fits
+  room-for-all r fits = rw (length-keep (edgeCount axes (sizeOf sides)) (cut sides masks)) at fits
 
   -- a point's parts are the definitions' place, edge and mark
   places-of : (es : List ℕ) → flatMap coordinates (map point es) ≡ flatMap (place axes (sizeOf sides) grey samples) es

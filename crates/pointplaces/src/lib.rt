@@ -1,4 +1,4 @@
-// The points of a grid, placed row by row from the masks of its rows.
+// The points of a grid, placed layer by layer from the words of its rows.
 ghost use mathlib.Core.Path.{_≡_};
 ghost use mathlib.Core.List.{map, flatMap};
 ghost use Prim.Native.Nat.{_*_, _≤_};
@@ -7,7 +7,7 @@ ghost use Rattle.laws.specs.Room.{laid};
 ghost use Rattle.grid.specs.Grid.{axes, sampleCount, mark};
 ghost use Rattle.grid.specs.Point.{pointEdges, place as placeOf};
 ghost use Rattle.grid.specs.Work.{size, SidesFit};
-ghost use Rattle.masks.specs.Masks.{maskAbove, Masked};
+ghost use Rattle.masks.specs.Masks.{rowWords, maskAbove, Masked};
 
 mod places;
 
@@ -27,7 +27,7 @@ pub fn place(
     marks: &mut [u8],
 )
     requires { ⌜ SidesFit nx ny nz ⌝ }
-    requires { ⌜ ny * nz ≤ length (now masks) ⌝ }
+    requires { ⌜ rowWords nx * (ny * nz) ≤ length (now masks) ⌝ }
     requires { ⌜ length (now samples) ≡ sampleCount (size nx ny nz) ⌝ }
     requires { ⌜ Masked nx (ny * nz) grey (now samples) (now masks) ⌝ }
     requires { ⌜ 3 * length (pointEdges axes (size nx ny nz) (maskAbove nx (now masks))) ≤ length (now points) ⌝ }
@@ -47,7 +47,8 @@ pub fn place(
         nx,
         ny,
         nz,
-        full: masks::full_mask(nx),
+        words: masks::row_words(nx),
+        last: masks::last_mask(nx),
     };
     let mut n: usize = 0;
     let mut z: usize = 0;

@@ -1,21 +1,21 @@
-// The points' places, grid edges and marks, written row by row to the front of their rooms.
+// The points' places, grid edges and marks, written to the front of their rooms, stretch by stretch.
 ghost use mathlib.Core.Path.{_≡_};
 ghost use Prim.Native.Nat.{_+_, _*_, _<_};
-ghost use Rattle.rows.specs.Rows.{firstEdge};
+ghost use Rattle.laws.specs.Bits.{wordBits};
+ghost use Rattle.rows.specs.Rows.{Stands, ownSamples, layerFirst};
 ghost use Rattle.edgepoints.specs.EdgePoint.{pointRooms, Standing, RoomsFor};
 ghost use Rattle.pointplaces.specs.Places.{SamplePlaceable, SamplePlaced, Given, countBelow, countAll, Advanced};
 use edgepoints::Sample;
 use edgepoints::place_edge;
 use rows::Cuts;
 use rows::Sides;
-use rows::busy_word;
-use rows::cuts_at;
-use rows::passed;
-use rows::row_at;
+use rows::Stretch;
+use rows::is_set;
 
-// The same for the three edges that leave a sample.
+// The points of the three edges that leave sample i of a stretch, from a number on. Answers the number after the last.
 fn place_sample(
     cuts: Cuts,
+    i: u32,
     sides: Sides,
     grey: u16,
     at: Sample,
@@ -25,14 +25,16 @@ fn place_sample(
     edges: &mut [u32],
     marks: &mut [u8],
 ) -> usize
+    requires { ⌜ i < wordBits ⌝ }
     requires { ⌜ Standing sides at ⌝ }
-    requires { ⌜ SamplePlaceable sides (now samples) (at .s) from cuts (pointRooms (now points) (now edges) (now marks)) ⌝ }
-    ensures { λ r. ⌜ SamplePlaced sides grey (now (samples .entry)) (at .s) from r cuts
+    requires { ⌜ SamplePlaceable sides (now samples) (at .s) from cuts i (pointRooms (now points) (now edges) (now marks)) ⌝ }
+    ensures { λ r. ⌜ SamplePlaced sides grey (now (samples .entry)) (at .s) from r cuts i
         (pointRooms (now (points .entry)) (now (edges .entry)) (now (marks .entry)))
         (pointRooms (now (points .exit)) (now (edges .exit)) (now (marks .exit))) ⌝ }
 {
+    let cut_x = is_set(cuts.x, i);
     let n = place_edge(
-        cuts.x,
+        cut_x,
         0,
         sides,
         grey,
@@ -43,15 +45,17 @@ fn place_sample(
         edges,
         marks,
     );
-    let n = place_edge(cuts.y, 1, sides, grey, at, n, samples, points, edges, marks);
-    place_edge(cuts.z, 2, sides, grey, at, n, samples, points, edges, marks)
+    let cut_y = is_set(cuts.y, i);
+    let n = place_edge(cut_y, 1, sides, grey, at, n, samples, points, edges, marks);
+    let cut_z = is_set(cuts.z, i);
+    place_edge(cut_z, 2, sides, grey, at, n, samples, points, edges, marks)
 }
 
-// The points of one row, from a number on, at one busy sample after the other. Answers the number after the last.
-fn place_row(
+// The points of a stretch's own samples, from a number on, at one busy sample after the other. Answers the number after the last.
+fn place_stretch(
     sides: Sides,
     grey: u16,
-    y: usize,
+    at: Stretch,
     z: usize,
     from: usize,
     samples: &[u16],
@@ -61,33 +65,46 @@ fn place_row(
     marks: &mut [u8],
 ) -> usize
     requires { ⌜ Given sides grey (now samples) (now masks) ⌝ }
-    requires { ⌜ y < sides .ny ⌝ }
+    requires { ⌜ Stands sides z at ⌝ }
+    requires { ⌜ at .y < sides .ny ⌝ }
     requires { ⌜ z < sides .nz ⌝ }
     requires { ⌜ RoomsFor (countAll sides (now masks)) (pointRooms (now points) (now edges) (now marks)) ⌝ }
-    requires { ⌜ from ≡ countBelow sides (now masks) (firstEdge sides y z) ⌝ }
-    ensures { λ r. ⌜ Advanced sides grey (now (samples .entry)) (now (masks .entry)) (firstEdge sides y z) (firstEdge sides (y + 1) z) r
+    requires { ⌜ from ≡ countBelow sides (now masks) (3 * at .s) ⌝ }
+    ensures { λ r. ⌜ Advanced sides grey (now (samples .entry)) (now (masks .entry)) (3 * at .s) (3 * (at .s + ownSamples (at .left))) r
         (pointRooms (now (points .entry)) (now (edges .entry)) (now (marks .entry)))
         (pointRooms (now (points .exit)) (now (edges .exit)) (now (marks .exit))) ⌝ }
 {
-    let row = row_at(sides, y, z, masks);
-    let first = sides.nx * (y + sides.ny * z);
-    let mut busy = busy_word(row, sides.full);
+    let cuts = rows::cuts_at(sides, at, z, masks);
+    let before = sides.nx - at.left;
+    let mut busy = cuts.x | cuts.y | cuts.z;
     let mut n = from;
-    let mut next: usize = 0;
     while busy != 0 {
-        let skip = u64::trailing_zeros(busy) as usize;
-        let x = next + skip;
-        let cuts = cuts_at(x + 1 < sides.nx, passed(row, x));
-        let s = first + x;
-        let at = Sample { s, x, y, z };
-        n = place_sample(cuts, sides, grey, at, n, samples, points, edges, marks);
-        busy = (busy >> skip) / 2;
-        next = x + 1;
+        let i = u64::trailing_zeros(busy);
+        let along = i as usize;
+        let sample = Sample {
+            s: at.s + along,
+            x: before + along,
+            y: at.y,
+            z,
+        };
+        n = place_sample(
+            cuts,
+            i,
+            sides,
+            grey,
+            sample,
+            n,
+            samples,
+            points,
+            edges,
+            marks,
+        );
+        busy = busy & (busy - 1);
     }
     n
 }
 
-// The points of one layer, row by row.
+// The points of one layer.
 pub fn place_layer(
     sides: Sides,
     grey: u16,
@@ -102,16 +119,16 @@ pub fn place_layer(
     requires { ⌜ Given sides grey (now samples) (now masks) ⌝ }
     requires { ⌜ z < sides .nz ⌝ }
     requires { ⌜ RoomsFor (countAll sides (now masks)) (pointRooms (now points) (now edges) (now marks)) ⌝ }
-    requires { ⌜ from ≡ countBelow sides (now masks) (firstEdge sides 0 z) ⌝ }
-    ensures { λ r. ⌜ Advanced sides grey (now (samples .entry)) (now (masks .entry)) (firstEdge sides 0 z) (firstEdge sides 0 (z + 1)) r
+    requires { ⌜ from ≡ countBelow sides (now masks) (3 * layerFirst sides z) ⌝ }
+    ensures { λ r. ⌜ Advanced sides grey (now (samples .entry)) (now (masks .entry)) (3 * layerFirst sides z) (3 * layerFirst sides (z + 1)) r
         (pointRooms (now (points .entry)) (now (edges .entry)) (now (marks .entry)))
         (pointRooms (now (points .exit)) (now (edges .exit)) (now (marks .exit))) ⌝ }
 {
     let mut n = from;
-    let mut y: usize = 0;
-    while y < sides.ny {
-        n = place_row(sides, grey, y, z, n, samples, masks, points, edges, marks);
-        y += 1;
+    let mut at = rows::first(sides, z);
+    while at.y < sides.ny {
+        n = place_stretch(sides, grey, at, z, n, samples, masks, points, edges, marks);
+        at = rows::next(sides, at);
     }
     n
 }

@@ -1,128 +1,92 @@
--- A row walked from one busy sample to the next: where the next one is, and that no edge that leaves a sample on the way is crossed.
-use mathlib.Core.Path.{_≡_, refl, ap, sym, _∙_}
+-- A stretch walked from one busy sample to the next: where the next one is, and that no edge that leaves a sample on the way is crossed.
+use mathlib.Core.Path.{_≡_, ap, sym, _∙_}
 use mathlib.Core.List.{List}
-use mathlib.Core.Bool.{Bool, true, false, _&&_, xor}
+use mathlib.Core.Bool.{Bool, true, false, _&&_, true≢false}
 use Prim.Native.Nat.{ℕ, zero, suc, _+_, _*_, _-_, _/_, _%_, _^_, _<_, _≤_}
+use native.Mathlib.Decide.{decLt}
 use native.Mathlib.Omega.{arith}
-use lib.Bits.{bitAnd, bitOr, bitXor}
+use lib.Bits.{bitAnd, bitOr}
 use lib.Count.{trailingZeros}
-use lib.Dec.{ltb}
-use borrow.Author.Tests.{ltb-true, lt-ltb}
-use Rattle.laws.specs.Bits.{wordBits, bit, halved}
-use Rattle.laws.proofs.Words.{bit-and, bit-or, bit-xor, bit-half, lowest-small}
-use Rattle.laws.proofs.Tests.{both, neither, alike}
-use Rattle.laws.proofs.Scan.{scan-quiet, scan-found, scan-done, scan-next}
-use Rattle.grid.specs.Grid.{axes, crossed}
-use Rattle.masks.specs.Masks.{maskAbove}
+use borrow.Author.Tests.{lt-ltb, le-ltb}
+use Rattle.laws.specs.Bits.{wordBits, bit}
+use Rattle.laws.proofs.Scan.{Left, next-bit, none-left}
+use Rattle.laws.proofs.Words.{bit-or, or-clear}
 use Rattle.rows.specs.declared.Sides.{Sides}
-use Rattle.rows.specs.declared.Row.{Row}
-use Rattle.rows.specs.Rows.{Ready, sizeOf, firstEdge, ownMask, behindMask, overMask, RowFrom, BusySamples}
-use Rattle.rows.proofs.Cut.{same-ends, cut-x, cut-y, cut-z}
+use Rattle.rows.specs.declared.Cuts.{Cuts}
+use Rattle.rows.specs.Rows.{cut, CutWords}
 
--- the word that has a bit set, within the full mask, where a sample differs from one of its neighbours
-module _ (row : Row) (full : ℕ) where
-  abbrev aside : ℕ
-  aside = bitOr (bitXor (row .here) (row .behind)) (bitXor (row .here) (row .over))
+-- the samples that an edge leaves which is crossed
+abbrev pub busyOf : Cuts → ℕ
+busyOf cuts = bitOr (bitOr (cuts .x) (cuts .y)) (cuts .z)
 
-  abbrev differing : ℕ
-  differing = bitOr (bitXor (row .here) (row .here / 2)) aside
+-- the three edges that leave a sample, of which e is the first, are crossed as the tests say
+pub record Tested (sides : Sides) (masks : List ℕ) (e : ℕ) (x y z : Bool) : Type 0 where
+  pub along-x : cut sides masks e ≡ x
+  pub along-y : cut sides masks (e + 1) ≡ y
+  pub along-z : cut sides masks (e + 2) ≡ z
 
-  -- where its bit is not set, none differs
-  none-differ : (x : ℕ) → bit full x ≡ true → bit (bitAnd full differing) x ≡ false
-      → (xor (bit (row .here) x) (bit (row .here) (x + 1)) ≡ false)
-      × (xor (bit (row .here) x) (bit (row .behind) x) ≡ false)
-      × (xor (bit (row .here) x) (bit (row .over) x) ≡ false)
-  none-differ x inside none =
-      let whole : bit differing x ≡ false = ap (λ t. t && bit differing x) (sym inside) ∙ sym (bit-and full differing x) ∙ none in
-      let all = neither _ _ (sym (bit-or (bitXor (row .here) (row .here / 2)) aside x) ∙ whole) in
-      let rest = neither _ _ (sym (bit-or (bitXor (row .here) (row .behind)) (bitXor (row .here) (row .over)) x) ∙ all .1) in (
-        ap (xor (bit (row .here) x)) (sym (bit-half (row .here) x)) ∙ sym (bit-xor (row .here) (row .here / 2) x) ∙ all .0,
-        sym (bit-xor (row .here) (row .behind) x) ∙ rest .0,
-        sym (bit-xor (row .here) (row .over) x) ∙ rest .1,
-      )
+-- The walk of a stretch comes from its sample x to its next busy one, t: the edges of those that it passes are not crossed, and the bits past it are left.
+pub record Found (sides : Sides) (masks : List ℕ) (s many word x rest t : ℕ) : Type 0 where
+  pub small : t < wordBits
+  pub from : x ≤ t
+  pub there : t < many
+  pub uncut : (i : ℕ) → i < 3 * (t - x) → cut sides masks (3 * (s + x) + i) ≡ false
+  pub left : Left word (t + 1) (bitAnd rest (rest - 1))
+  pub falls : bitAnd rest (rest - 1) < rest
 
-  pub busy-of : BusySamples full row (bitAnd full differing)
-  busy-of = record {
-    within = λ x set. both (bit full x) (bit differing x) (sym (bit-and full differing x) ∙ set) .0;
-    same-x = λ x inside none. alike _ _ (none-differ x inside none .0);
-    same-y = λ x inside none. alike _ _ (none-differ x inside none .1);
-    same-z = λ x inside none. alike _ _ (none-differ x inside none .2);
-  }
+module _ (sides : Sides) (masks : List ℕ) (s many : ℕ) (cuts : Cuts) (by : CutWords sides masks s many cuts) where
+  -- the tests of a sample
+  pub tested : (i : ℕ) → i < many → Tested sides masks (3 * (s + i)) (bit (cuts .x) i) (bit (cuts .y) i) (bit (cuts .z) i)
+  tested i l =
+      let set = lt-ltb i many l in
+      record {
+        along-x = sym (by .along-x i ∙ ap (λ t. t && cut sides masks (3 * (s + i))) set);
+        along-y = sym (by .along-y i ∙ ap (λ t. t && cut sides masks (3 * (s + i) + 1)) set);
+        along-z = sym (by .along-z i ∙ ap (λ t. t && cut sides masks (3 * (s + i) + 2)) set);
+      }
 
--- a number is no larger when it is halved
-halved-small : (n i : ℕ) → halved n i ≤ n
-unfolding halved
-halved-small n zero = omega arith
-halved-small n (suc i) = omega (arith, halved-small n i)
+  -- no bit is set past the samples
+  past-clear : (i : ℕ) → many ≤ i → bit (busyOf cuts) i ≡ false
+  past-clear i h = let none = le-ltb i many h in rw (bit-or (bitOr (cuts .x) (cuts .y)) (cuts .z) i, bit-or (cuts .x) (cuts .y) i, by .along-x i, by .along-y i, by .along-z i, none)
 
--- The walk of a row comes from sample x to its next busy sample. b has the bits of the samples from x on, and as many zeros as samples are
--- skipped: their edges are not crossed.
-pub record Found (sides : Sides) (masks : List ℕ) (y z word x b : ℕ) : Type 0 where
-  pub small : trailingZeros wordBits b < wordBits
-  pub there : x + trailingZeros wordBits b < sides .nx
-  pub uncut : (i : ℕ) → i < 3 * trailingZeros wordBits b → crossed axes (sizeOf sides) (maskAbove (sides .nx) masks) (firstEdge sides y z + 3 * x + i) ≡ false
-  pub left : b / 2 ^ trailingZeros wordBits b / 2 ≡ halved word (x + trailingZeros wordBits b + 1)
-
-module _ (sides : Sides) (masks : List ℕ) (ready : Ready sides masks) (y z : ℕ) (hy : y < sides .ny) (hz : z < sides .nz) (row : Row)
-    (from : RowFrom (sides .ny) (sides .nz) masks y z 0 row) (word : ℕ) (by : BusySamples (sides .full) row word) where
-  abbrev cut : ℕ → Bool
-  cut = crossed axes (sizeOf sides) (maskAbove (sides .nx) masks)
-
-  here : (x : ℕ) → bit (ownMask (sides .ny) masks y z) x ≡ bit (row .here) x
-  unfolding halved
-  here x = ap (λ m. bit m x) (sym (from .own))
-
-  behind : (x : ℕ) → bit (behindMask (sides .ny) masks y z) x ≡ bit (row .behind) x
-  unfolding halved
-  behind x = ap (λ m. bit m x) (sym (from .behind))
-
-  over : (x : ℕ) → bit (overMask (sides .ny) (sides .nz) masks y z) x ≡ bit (row .over) x
-  unfolding halved
-  over x = ap (λ m. bit m x) (sym (from .over))
-
-  -- the edges of a sample whose bit is not set
-  uncut : (x axis : ℕ) → x < sides .nx → bit word x ≡ false → axis < 3 → cut (3 * (x + sides .nx * (y + sides .ny * z)) + axis) ≡ false
-  uncut x zero hx none l =
-      let q : 3 * (x + sides .nx * (y + sides .ny * z)) + 0 ≡ 3 * (x + sides .nx * (y + sides .ny * z)) = omega arith in
-      let same = by .same-x x (ready .full x ∙ lt-ltb _ _ hx) none in
-      rw q (cut-x (sides .nx) (sides .ny) (sides .nz) masks x y z hx hy hz ∙ rw (here x, here (x + 1), same) (go (ltb (x + 1) (sides .nx))))
+  pub busy-there : (i : ℕ) → bit (busyOf cuts) i ≡ true → i < many
+  busy-there i set = go (decLt i many)
     where
-      go : (t : Bool) → (t && xor (bit (row .here) (x + 1)) (bit (row .here) (x + 1))) ≡ false
-      go true = same-ends (bit (row .here) (x + 1))
-      go false = refl
-  uncut x (suc zero) hx none l =
-      let same = by .same-y x (ready .full x ∙ lt-ltb _ _ hx) none in
-      cut-y (sides .nx) (sides .ny) (sides .nz) masks x y z hx hy hz ∙ rw (here x, behind x, same) (same-ends (bit (row .behind) x))
-  uncut x (suc (suc zero)) hx none l =
-      let same = by .same-z x (ready .full x ∙ lt-ltb _ _ hx) none in
-      cut-z (sides .nx) (sides .ny) (sides .nz) masks x y z hx hy hz ∙ rw (here x, over x, same) (same-ends (bit (row .over) x))
-  uncut x (suc (suc (suc axis))) hx none l = absurd (omega arith)
+      go : Dec (i < many) → i < many
+      go (yes l) = l
+      go (no u) = absurd (true≢false (sym set ∙ past-clear i (omega arith)))
 
-  -- the edges of a run of such samples
-  run-uncut : (x len : ℕ) → x + len ≤ sides .nx → ((i : ℕ) → x ≤ i → i < x + len → bit word i ≡ false) → (i : ℕ) → i < 3 * len
-      → cut (firstEdge sides y z + 3 * x + i) ≡ false
-  run-uncut x len h none i l =
-      let q : firstEdge sides y z + 3 * x + i ≡ 3 * (x + i / 3 + sides .nx * (y + sides .ny * z)) + i % 3 = omega arith in
+  -- the edges of a sample whose bit is not set, and of a run of such samples
+  uncut : (i axis : ℕ) → i < many → bit (busyOf cuts) i ≡ false → axis < 3 → cut sides masks (3 * (s + i) + axis) ≡ false
+  uncut i axis l none h = go axis h (tested i l)
+    where
+      go : (axis : ℕ) → axis < 3 → Tested sides masks (3 * (s + i)) (bit (cuts .x) i) (bit (cuts .y) i) (bit (cuts .z) i) → cut sides masks (3 * (s + i) + axis) ≡ false
+      go zero h test =
+          let q : 3 * (s + i) + 0 ≡ 3 * (s + i) = omega arith in
+          rw q (test .along-x ∙ or-clear (cuts .x) (cuts .y) i (or-clear (bitOr (cuts .x) (cuts .y)) (cuts .z) i none .0) .0)
+      go (suc zero) h test = test .along-y ∙ or-clear (cuts .x) (cuts .y) i (or-clear (bitOr (cuts .x) (cuts .y)) (cuts .z) i none .0) .1
+      go (suc (suc zero)) h test = test .along-z ∙ or-clear (bitOr (cuts .x) (cuts .y)) (cuts .z) i none .1
+      go (suc (suc (suc axis))) h test = absurd (omega arith)
+
+  run-uncut : (x t : ℕ) → t ≤ many → ((i : ℕ) → x ≤ i → i < t → bit (busyOf cuts) i ≡ false) → (i : ℕ) → i < 3 * (t - x) → cut sides masks (3 * (s + x) + i) ≡ false
+  run-uncut x t h none i l =
+      let q : 3 * (s + x) + i ≡ 3 * (s + (x + i / 3)) + i % 3 = omega arith in
       rw q (uncut (x + i / 3) (i % 3) (omega arith) (none (x + i / 3) (omega arith) (omega arith)) (omega arith))
 
-  -- where the word has no bit left, and where it has one
-  module _ (x b : ℕ) (is : b ≡ halved word x) where
-    pub rest-uncut : x ≤ sides .nx → b ≡ 0 → (i : ℕ) → i < 3 * (sides .nx - x) → cut (firstEdge sides y z + 3 * x + i) ≡ false
-    rest-uncut h none = run-uncut x (sides .nx - x) (omega arith) (λ i l u. scan-done wordBits word x (sym is ∙ none) i l)
+  -- where no bit is left, and where one is
+  module _ (x rest : ℕ) (left : Left (busyOf cuts) x rest) where
+    pub rest-uncut : rest ≡ 0 → (i : ℕ) → i < 3 * (many - x) → cut sides masks (3 * (s + x) + i) ≡ false
+    rest-uncut none = run-uncut x many (omega arith) (λ i l u. none-left (busyOf cuts) x rest left none i l)
 
-    abbrev skip : ℕ
-    skip = trailingZeros wordBits b
-
-    pub found : word < 2 ^ 64 → (b ≡ 0 → ⊥) → Found sides masks y z word x b
-    found fits some =
-        let fewer : b < 2 ^ 64 = omega (arith, halved-small word x) in
-        let set : bit word (x + skip) ≡ true
-        = ap (λ b. bit word (x + trailingZeros wordBits b)) is ∙ scan-found wordBits word x (rw is at fewer) (rw is at some) in
-        let there : x + skip < sides .nx = ltb-true _ _ (sym (ready .full (x + skip)) ∙ by .within (x + skip) set) in
+    pub found : rest < 2 ^ 64 → (rest ≡ 0 → ⊥) → Found sides masks s many (busyOf cuts) x rest (trailingZeros wordBits rest)
+    found h some =
+        let next = next-bit wordBits (busyOf cuts) x rest left h some in
+        let there = busy-there (trailingZeros wordBits rest) (next .set) in
         record {
-          small = lowest-small wordBits b fewer some;
+          small = next .small;
+          from = next .from;
           there = there;
-          uncut = run-uncut x skip (omega arith) (λ i l u. scan-quiet wordBits word x i l (rw is at u));
-          left =
-              ap (λ m. m / 2 ^ skip / 2) is ∙ scan-next wordBits word x skip;
+          uncut = run-uncut x (trailingZeros wordBits rest) (omega arith) (next .quiet);
+          left = next .left;
+          falls = next .falls;
         }

@@ -1,30 +1,24 @@
--- The crossed edges of a sample by the masks of its row and of the row's neighbours.
+-- The crossed edges of a stretch's own samples, by its word and those of its neighbours.
 use mathlib.Core.Path.{_≡_, refl, ap, ap₂, sym, _∙_}
 use mathlib.Core.List.{List}
-use mathlib.Core.Bool.{Bool, true, false, cond, _&&_, xor}
-use Prim.Native.Nat.{ℕ, _+_, _*_, _/_, _%_, _^_, _<_}
-use native.Mathlib.Nat.{mul-add, mul-one, zero-add}
+use mathlib.Core.Bool.{Bool, true, false, cond, _&&_, xor, and-true, and-false}
+use Prim.Native.Nat.{ℕ, _+_, _*_, _-_, _/_, _<_}
+use native.Mathlib.Decide.{decLt}
+use native.Mathlib.Nat.{mul-add, mul-one}
 use native.Mathlib.Omega.{arith}
-use lib.Dec.{eqb, ltb}
+use lib.Bits.{bitAnd, bitXor}
+use lib.Dec.{ltb}
 use lib.ListN.{getD}
-use borrow.Author.Tests.{ltb-true}
-use Rattle.laws.specs.Bits.{bit, halved}
-use Rattle.laws.proofs.Halves.{halved-next, bit-halved}
-use Rattle.laws.proofs.Words.{halved-more}
-use Rattle.grid.specs.Grid.{site, axes, crossed}
-use Rattle.grid.specs.Work.{size}
-use Rattle.laws.proofs.Digits.{low-mod, low-div}
+use borrow.Author.Tests.{ltb-true, lt-ltb, le-ltb}
+use Rattle.laws.specs.Bits.{wordBits, bit}
+use Rattle.laws.proofs.Words.{bit-and, bit-xor, bit-half}
+use Rattle.grid.specs.Grid.{site}
 use Rattle.grid.proofs.Crossings.{crossed-x, crossed-y, crossed-z}
-use Rattle.masks.specs.Masks.{maskAbove}
+use Rattle.masks.specs.Masks.{wordCubes, maskAbove}
 use Rattle.rows.specs.declared.Sides.{Sides}
-use Rattle.rows.specs.declared.Row.{Row}
-use Rattle.rows.specs.declared.Cuts.{Cuts}
-use Rattle.rows.specs.Rows.{sizeOf, ownMask, behindMask, overMask, RowFrom, Parted, halvedBy}
-
--- a sample of a row is above when its bit of the row's mask is set
-above-at : (nx : ℕ) (masks : List ℕ) (x row : ℕ) → x < nx → maskAbove nx masks (x + nx * row) ≡ bit (getD masks row 0) x
-unfolding maskAbove
-above-at nx masks x row h = ap₂ (λ r x. bit (getD masks r 0) x) (low-div x nx row h) (low-mod x nx row h)
+use Rattle.rows.specs.declared.Stretch.{Stretch}
+use Rattle.rows.specs.Rows.{sizeOf, cut, Ready, Stands, ownSamples, ownCubes, samplesMask, cubesMask, CutWords}
+use Rattle.rows.proofs.Stretches.{row-there, own-most, own-last, cubes-most, sample-is, behind-is, over-is, behind-there, over-there, samples-set, cubes-set}
 
 -- two equal ends do not differ
 pub same-ends : (b : Bool) → xor b b ≡ false
@@ -32,89 +26,125 @@ unfolding xor
 same-ends true = refl
 same-ends false = refl
 
-module _ (nx ny nz : ℕ) (masks : List ℕ) (x y z : ℕ) (hx : x < nx) (hy : y < ny) (hz : z < nz) where
-  abbrev row : ℕ
-  row = y + ny * z
-
-  abbrev s : ℕ
-  s = x + nx * row
-
+module _ (sides : Sides) (masks : List ℕ) (ready : Ready sides masks) (z : ℕ) (at : Stretch) (stands : Stands sides z at) (hy : at .y < sides .ny) (hz : z < sides .nz) where
   abbrev above : ℕ → Bool
-  above = maskAbove nx masks
+  above = maskAbove (sides .nx) masks
 
-  own : above s ≡ bit (ownMask ny masks y z) x
-  own = above-at nx masks x row hx
+  abbrev row : ℕ
+  row = at .y + sides .ny * z
 
-  pub cut-x : crossed axes (size nx ny nz) above (3 * s)
-      ≡ (ltb (x + 1) nx && xor (bit (ownMask ny masks y z) x) (bit (ownMask ny masks y z) (x + 1)))
-  unfolding site
-  cut-x = crossed-x (size nx ny nz) above x y z hx hy hz ∙ go (ltb (x + 1) nx) refl
+  -- the x of sample i
+  abbrev x : ℕ → ℕ
+  x i = wordCubes * stands .words + i
+
+  -- bit i of the stretch's word in a row
+  pub bit-is : (r i : ℕ) → r < sides .ny * sides .nz → i < wordBits → i < at .left → bit (getD masks (stands .words + sides .words * r) 0) i ≡ above (x i + sides .nx * r)
+  bit-is r i there small inside =
+      rw (stands .each) (ready .agree r (stands .words) i there (omega (arith, stands .along, stands .some)) small (omega (arith, stands .along)))
+
+  abbrev here : ℕ
+  here = getD masks (at .word) 0
+
+  abbrev behind : ℕ
+  behind = cond (ltb (at .y + 1) (sides .ny)) (getD masks (at .word + sides .words) 0) here
+
+  abbrev over : ℕ
+  over = cond (ltb (z + 1) (sides .nz)) (getD masks (at .word + sides .words * sides .ny) 0) here
+
+  module _ (i : ℕ) (small : i < wordBits) (inside : i < at .left) where
+    abbrev s : ℕ
+    s = at .s + i
+
+    s-is : s ≡ x i + sides .nx * row
+    s-is = sample-is sides z at stands i
+
+    here-is : bit here i ≡ above s
+    here-is = ap (λ k. bit (getD masks k 0) i) (stands .word) ∙ bit-is row i (row-there sides z at stands hy hz) small inside ∙ ap above (sym s-is)
+
+    hx : x i < sides .nx
+    hx = omega (arith, stands .along)
+
+    cut-x : cut sides masks (3 * s) ≡ (ltb (x i + 1) (sides .nx) && xor (above s) (above (s + 1)))
+    unfolding site
+    cut-x = rw s-is (crossed-x (sizeOf sides) above (x i) (at .y) z hx hy hz)
+
+    -- where there is no row further on the word is the row's own
+    cut-y : cut sides masks (3 * s + 1) ≡ xor (bit here i) (bit behind i)
+    unfolding site
+    cut-y = rw (← s-is) at (crossed-y (sizeOf sides) above (x i) (at .y) z hx hy hz) ∙ go (ltb (at .y + 1) (sides .ny)) refl
+      where
+        go : (t : Bool) → ltb (at .y + 1) (sides .ny) ≡ t
+            → (t && xor (above s) (above (s + sides .nx))) ≡ xor (bit here i) (bit (cond t (getD masks (at .word + sides .words) 0) here) i)
+        go true e =
+            let q : s + sides .nx ≡ x i + sides .nx * (row + 1) = omega (arith, s-is, mul-add (sides .nx) row 1, mul-one (sides .nx)) in
+            rw (here-is, behind-is sides z at stands, bit-is (row + 1) i (behind-there sides z at stands hy hz (ltb-true _ _ e)) small inside, q)
+        go false e = sym (same-ends (bit here i))
+
+    cut-z : cut sides masks (3 * s + 2) ≡ xor (bit here i) (bit over i)
+    unfolding site
+    cut-z = rw (← s-is) at (crossed-z (sizeOf sides) above (x i) (at .y) z hx hy hz) ∙ go (ltb (z + 1) (sides .nz)) refl
+      where
+        go : (t : Bool) → ltb (z + 1) (sides .nz) ≡ t
+            → (t && xor (above s) (above (s + sides .nx * sides .ny))) ≡ xor (bit here i) (bit (cond t (getD masks (at .word + sides .words * sides .ny) 0) here) i)
+        go true e =
+            let q : s + sides .nx * sides .ny ≡ x i + sides .nx * (row + sides .ny) = omega (arith, s-is, mul-add (sides .nx) row (sides .ny)) in
+            rw (here-is, over-is sides z at stands, bit-is (row + sides .ny) i (over-there sides z at stands hy hz (ltb-true _ _ e)) small inside, q)
+        go false e = sym (same-ends (bit here i))
+
+  abbrev own : ℕ
+  own = ownSamples (at .left)
+
+  -- a word with the bits of a stretch's own samples alone
+  masked : (f : ℕ → Bool) (word : ℕ) → ((i : ℕ) → i < own → bit word i ≡ f i) → (i : ℕ) → bit (bitAnd word (samplesMask sides (at .left))) i ≡ (ltb i own && f i)
+  masked f word is i = bit-and word (samplesMask sides (at .left)) i ∙ ap (λ t. bit word i && t) (samples-set sides masks ready z at stands i) ∙ go (decLt i own)
     where
-      go : (t : Bool) → ltb (x + 1) nx ≡ t → (t && xor (above s) (above (s + 1))) ≡ (t && xor (bit (ownMask ny masks y z) x) (bit (ownMask ny masks y z) (x + 1)))
-      go true h = let e : s + 1 ≡ x + 1 + nx * row = omega arith in rw (own, e, above-at nx masks (x + 1) row (ltb-true _ _ h))
-      go false h = refl
+      go : Dec (i < own) → (bit word i && ltb i own) ≡ (ltb i own && f i)
+      go (yes l) = rw (lt-ltb i own l, and-true (bit word i)) (is i l)
+      go (no u) = rw (le-ltb i own (omega arith)) (and-false (bit word i))
 
-  pub cut-y : crossed axes (size nx ny nz) above (3 * s + 1) ≡ xor (bit (ownMask ny masks y z) x) (bit (behindMask ny masks y z) x)
-  unfolding site
-  cut-y = crossed-y (size nx ny nz) above x y z hx hy hz ∙ go (ltb (y + 1) ny)
-    where
-      e : s + nx ≡ x + nx * (row + 1)
-      e = omega (arith, mul-add nx row 1, mul-one nx)
-
-      go : (t : Bool) → (t && xor (above s) (above (s + nx))) ≡ xor (bit (ownMask ny masks y z) x) (bit (cond t (getD masks (row + 1) 0) (ownMask ny masks y z)) x)
-      go true = rw (own, e, above-at nx masks x (row + 1) hx)
-      go false = sym (same-ends (bit (ownMask ny masks y z) x))
-
-  pub cut-z : crossed axes (size nx ny nz) above (3 * s + 2) ≡ xor (bit (ownMask ny masks y z) x) (bit (overMask ny nz masks y z) x)
-  unfolding site
-  cut-z = crossed-z (size nx ny nz) above x y z hx hy hz ∙ go (ltb (z + 1) nz)
-    where
-      e : s + nx * ny ≡ x + nx * (row + ny)
-      e = omega (arith, mul-add nx row ny)
-
-      go : (t : Bool) → (t && xor (above s) (above (s + nx * ny))) ≡ xor (bit (ownMask ny masks y z) x) (bit (cond t (getD masks (row + ny) 0) (ownMask ny masks y z)) x)
-      go true = rw (own, e, above-at nx masks x (row + ny) hx)
-      go false = sym (same-ends (bit (ownMask ny masks y z) x))
-
--- the lowest bits of a mask that was halved x times
-low-bit : (m x h : ℕ) → h ≡ halved m x → bit m x ≡ eqb (h % 2) 1
-low-bit m x h is = rw is (bit-halved m x)
-
-next-bit : (m x h : ℕ) → h ≡ halved m x → bit m (x + 1) ≡ eqb (h / 2 % 2) 1
-next-bit m x h is = rw (is, ← (halved-next m x)) (bit-halved m (x + 1))
-
--- the row with its first x samples passed
-pub row-passed : (ny nz : ℕ) (masks : List ℕ) (y z x : ℕ) (row : Row) → RowFrom ny nz masks y z 0 row → RowFrom ny nz masks y z x (halvedBy row x)
-row-passed ny nz masks y z x row from = record {
-  own = later (ownMask ny masks y z) (row .here) (from .own);
-  behind = later (behindMask ny masks y z) (row .behind) (from .behind);
-  over = later (overMask ny nz masks y z) (row .over) (from .over);
-}
-  where
-    later : (m h : ℕ) → h ≡ halved m 0 → h / 2 ^ x ≡ halved m x
-    later m h is = ap (λ k. k / 2 ^ x) is ∙ halved-more m 0 x ∙ ap (halved m) (zero-add x)
-
--- the three edges that leave a sample, of which e is the first, are crossed as the tests say
-pub record Tested (sides : Sides) (masks : List ℕ) (e : ℕ) (cuts : Cuts) : Type 0 where
-  pub along-x : crossed axes (sizeOf sides) (maskAbove (sides .nx) masks) e ≡ cuts .x
-  pub along-y : crossed axes (sizeOf sides) (maskAbove (sides .nx) masks) (e + 1) ≡ cuts .y
-  pub along-z : crossed axes (sizeOf sides) (maskAbove (sides .nx) masks) (e + 2) ≡ cuts .z
-
--- the tests of the row's next sample
-module _ (sides : Sides) (masks : List ℕ) (x y z : ℕ) (hx : x < sides .nx) (hy : y < sides .ny) (hz : z < sides .nz) (row : Row)
-    (from : RowFrom (sides .ny) (sides .nz) masks y z x row) (cuts : Cuts) (by : Parted (ltb (x + 1) (sides .nx)) row cuts) where
-  abbrev m : ℕ
-  m = ownMask (sides .ny) masks y z
-
-  pub tested : (e : ℕ) → e ≡ 3 * (x + sides .nx * (y + sides .ny * z)) → Tested sides masks e cuts
-  tested e is = rw is record {
-    along-x =
-        cut-x (sides .nx) (sides .ny) (sides .nz) masks x y z hx hy hz
-        ∙ rw (low-bit m x (row .here) (from .own), next-bit m x (row .here) (from .own)) (sym (by .along-x));
-    along-y =
-        cut-y (sides .nx) (sides .ny) (sides .nz) masks x y z hx hy hz
-        ∙ rw (low-bit m x (row .here) (from .own), low-bit (behindMask (sides .ny) masks y z) x (row .behind) (from .behind)) (sym (by .along-y));
-    along-z =
-        cut-z (sides .nx) (sides .ny) (sides .nz) masks x y z hx hy hz
-        ∙ rw (low-bit m x (row .here) (from .own), low-bit (overMask (sides .ny) (sides .nz) masks y z) x (row .over) (from .over)) (sym (by .along-z));
+  pub cut-words : CutWords sides masks (at .s) own
+      (record {
+        x = bitAnd (bitXor here (here / 2)) (cubesMask sides (at .left));
+        y = bitAnd (bitXor here behind) (samplesMask sides (at .left));
+        z = bitAnd (bitXor here over) (samplesMask sides (at .left));
+      })
+  cut-words = record {
+    along-x = λ i. bit-and (bitXor here (here / 2)) (cubesMask sides (at .left)) i
+        ∙ ap₂ _&&_ (bit-xor here (here / 2) i ∙ ap (xor (bit here i)) (bit-half here i)) (cubes-set sides masks ready z at stands i)
+        ∙ along i (decLt i (ownCubes (at .left))) (decLt i own);
+    along-y = masked (λ i. cut sides masks (3 * (at .s + i) + 1)) (bitXor here behind) (λ i l. bit-xor here behind i ∙ sym (cut-y i (short i l) (within i l)));
+    along-z = masked (λ i. cut sides masks (3 * (at .s + i) + 2)) (bitXor here over) (λ i l. bit-xor here over i ∙ sym (cut-z i (short i l) (within i l)));
   }
+    where
+      within : (i : ℕ) → i < own → i < at .left
+      within i l = omega (arith, own-most sides z at stands .0)
+
+      short : (i : ℕ) → i < own → i < wordBits
+      short i l = omega (arith, own-most sides z at stands .1)
+
+      -- the row's last sample has no edge along x
+      along : (i : ℕ) → Dec (i < ownCubes (at .left)) → Dec (i < own)
+          → (xor (bit here i) (bit here (i + 1)) && ltb i (ownCubes (at .left))) ≡ (ltb i own && cut sides masks (3 * (at .s + i)))
+      along i (yes l) mine =
+          let most = cubes-most sides z at stands in
+          let q : at .s + (i + 1) ≡ at .s + i + 1 = omega arith in
+          rw (
+            here-is i (omega (arith, most)) (omega (arith, most)),
+            here-is (i + 1) (omega (arith, most)) (omega (arith, most)),
+            q,
+            cut-x i (omega (arith, most)) (omega (arith, most)),
+            lt-ltb i (ownCubes (at .left)) l,
+            lt-ltb i own (omega (arith, most)),
+            lt-ltb (x i + 1) (sides .nx) (omega (arith, most, stands .along)),
+          )
+          (and-true (xor (above (at .s + i)) (above (at .s + i + 1))))
+      along i (no u) (yes l) =
+          let last = own-last sides z at stands i (omega arith) l in
+          rw (
+            le-ltb i (ownCubes (at .left)) (omega arith),
+            lt-ltb i own l,
+            cut-x i (short i l) (within i l),
+            le-ltb (x i + 1) (sides .nx) (omega (arith, last, stands .along)),
+          )
+          (and-false (xor (bit here i) (bit here (i + 1))))
+      along i (no u) (no v) = rw (le-ltb i (ownCubes (at .left)) (omega arith), le-ltb i own (omega arith)) (and-false (xor (bit here i) (bit here (i + 1))))

@@ -1,4 +1,4 @@
--- What is small and where rows begin; crossed edges by masks; the busy samples of a row.
-pub mod Bounds
+-- Where stretches stand; crossed edges by words; the busy samples of a stretch.
+pub mod Stretches
 pub mod Cut
 pub mod Busy

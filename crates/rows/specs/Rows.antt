@@ -1,68 +1,91 @@
--- The rows of a grid as masks, while a walk passes their samples.
+-- The rows of a grid in words, while a walk goes from word to word.
 use mathlib.Core.Path.{_≡_}
 use mathlib.Core.List.{List}
-use mathlib.Core.Bool.{Bool, true, false, cond, _&&_, xor}
-use Prim.Native.Nat.{ℕ, _+_, _*_, _/_, _%_, _^_, _≤_}
-use lib.Dec.{eqb, ltb}
-use lib.ListN.{length, getD}
-use Rattle.laws.specs.Bits.{bit, halved}
+use mathlib.Core.Bool.{Bool, cond, _&&_}
+use Prim.Native.Nat.{ℕ, _+_, _*_, _-_, _/_, _^_, _<_, _≤_}
+use lib.Dec.{leb, ltb}
+use lib.ListN.{length}
+use Rattle.laws.specs.Bits.{wordBits, bit}
 use Rattle.laws.specs.Range.{one-if}
-use Rattle.grid.specs.Grid.{Size}
+use Rattle.grid.specs.Grid.{Size, axes, crossed}
 use Rattle.grid.specs.Work.{size, SidesFit}
-use Rattle.masks.specs.Masks.{AllSet}
+use Rattle.masks.specs.Masks.{wordCubes, rowWords, lastSamples, maskAbove, Agreeing, AllSet}
 use Rattle.rows.specs.declared.Sides.{Sides}
-use Rattle.rows.specs.declared.Row.{Row}
+use Rattle.rows.specs.declared.Stretch.{Stretch}
 use Rattle.rows.specs.declared.Cuts.{Cuts}
-
--- the sides are within the limits, the full mask is theirs, and each row has a mask
-pub record Ready (sides : Sides) (masks : List ℕ) : Type 0 where
-  pub fit : SidesFit (sides .nx) (sides .ny) (sides .nz)
-  pub full : AllSet (sides .nx) (sides .full)
-  pub rows : sides .ny * sides .nz ≤ length masks
 
 abbrev pub sizeOf : Sides → Size
 sizeOf sides = size (sides .nx) (sides .ny) (sides .nz)
 
--- the first grid edge of the row at y, z
-abbrev pub firstEdge : Sides → ℕ → ℕ → ℕ
-firstEdge sides y z = 3 * (sides .nx * (y + sides .ny * z))
+-- is a grid edge crossed, by the words
+abbrev pub cut : Sides → List ℕ → ℕ → Bool
+cut sides masks = crossed axes (sizeOf sides) (maskAbove (sides .nx) masks)
 
--- the masks of the row at y, z, of the row behind it (along y) and of the row over it (along z): its own where the grid ends
-abbrev pub ownMask : ℕ → List ℕ → ℕ → ℕ → ℕ
-ownMask ny masks y z = getD masks (y + ny * z) 0
+-- the sides are within the limits, the words of a row and the mask of its last are theirs, and each row has its words
+pub record Ready (sides : Sides) (masks : List ℕ) : Type 0 where
+  pub fit : SidesFit (sides .nx) (sides .ny) (sides .nz)
+  pub words : sides .words ≡ rowWords (sides .nx)
+  pub last : AllSet (lastSamples (sides .nx)) (sides .last)
+  pub rows : rowWords (sides .nx) * (sides .ny * sides .nz) ≤ length masks
+  pub agree : Agreeing (sides .nx) (sides .ny * sides .nz) masks
 
-abbrev pub behindMask : ℕ → List ℕ → ℕ → ℕ → ℕ
-behindMask ny masks y z = cond (ltb (y + 1) ny) (getD masks (y + ny * z + 1) 0) (ownMask ny masks y z)
+-- the number of the first sample of layer z
+abbrev pub layerFirst : Sides → ℕ → ℕ
+layerFirst sides z = sides .nx * (sides .ny * z)
 
-abbrev pub overMask : ℕ → ℕ → List ℕ → ℕ → ℕ → ℕ
-overMask ny nz masks y z = cond (ltb (z + 1) nz) (getD masks (y + ny * z + ny) 0) (ownMask ny masks y z)
+-- the x of a stretch's first sample
+abbrev pub firstX : Sides → Stretch → ℕ
+firstX sides at = sides .nx - at .left
 
--- x samples of the row at y, z are passed
-pub record RowFrom (ny nz : ℕ) (masks : List ℕ) (y z x : ℕ) (row : Row) : Type 0 where
-  pub own : row .here ≡ halved (ownMask ny masks y z) x
-  pub behind : row .behind ≡ halved (behindMask ny masks y z) x
-  pub over : row .over ≡ halved (overMask ny nz masks y z) x
+-- A stretch of layer z: so many words of its row are before it, it has a cube at least, and it begins at its sample and its word. Past the last row the next one's first would be.
+pub record Stands (sides : Sides) (z : ℕ) (at : Stretch) : Type 0 where
+  pub words : ℕ
+  pub each : sides .words ≡ rowWords (sides .nx)
+  pub along : sides .nx ≡ wordCubes * words + at .left
+  pub some : 2 ≤ at .left
+  pub row : at .y ≤ sides .ny
+  pub site : at .s ≡ wordCubes * words + sides .nx * (at .y + sides .ny * z)
+  pub word : at .word ≡ words + sides .words * (at .y + sides .ny * z)
+  pub last : at .y ≡ sides .ny → words ≡ 0
 
--- the word's bits are set within the full mask alone, and where one is not set the sample's neighbours are above or below as it is
-pub record BusySamples (full : ℕ) (row : Row) (word : ℕ) : Type 0 where
-  pub within : (x : ℕ) → bit word x ≡ true → bit full x ≡ true
-  pub same-x : (x : ℕ) → bit full x ≡ true → bit word x ≡ false → bit (row .here) x ≡ bit (row .here) (x + 1)
-  pub same-y : (x : ℕ) → bit full x ≡ true → bit word x ≡ false → bit (row .here) x ≡ bit (row .behind) x
-  pub same-z : (x : ℕ) → bit full x ≡ true → bit word x ≡ false → bit (row .here) x ≡ bit (row .over) x
+-- a stretch's numbers are small enough to be added to
+pub record Small (at : Stretch) : Type 0 where
+  pub left : at .left < 2 ^ 32
+  pub y : at .y < 2 ^ 32
+  pub s : at .s < 2 ^ 32
+  pub word : at .word < 2 ^ 32
 
--- do the lowest bits of two masks differ
-abbrev pub lowestDiffer : ℕ → ℕ → Bool
-lowestDiffer a b = xor (eqb (a % 2) 1) (eqb (b % 2) 1)
+-- a stretch's own samples: up to the next word's first, or to the row's end
+abbrev pub ownSamples : ℕ → ℕ
+ownSamples left = cond (leb left wordBits) left wordCubes
 
--- the crossed edges of the row's next sample
-pub record Parted (more : Bool) (row : Row) (cuts : Cuts) : Type 0 where
-  pub along-x : cuts .x ≡ (more && lowestDiffer (row .here) (row .here / 2))
-  pub along-y : cuts .y ≡ lowestDiffer (row .here) (row .behind)
-  pub along-z : cuts .z ≡ lowestDiffer (row .here) (row .over)
+-- its cubes: up to the next word's first sample, or to the row's last
+abbrev pub ownCubes : ℕ → ℕ
+ownCubes left = cond (leb left wordBits) (left - 1) wordCubes
 
--- the row with its first x samples passed
-abbrev pub halvedBy : Row → ℕ → Row
-halvedBy row x = record { here = row .here / 2 ^ x; behind = row .behind / 2 ^ x; over = row .over / 2 ^ x }
+abbrev pub samplesMask : Sides → ℕ → ℕ
+samplesMask sides left = cond (leb left wordBits) (sides .last) (2 ^ 63 - 1)
+
+abbrev pub cubesMask : Sides → ℕ → ℕ
+cubesMask sides left = cond (leb left wordBits) (sides .last / 2) (2 ^ 63 - 1)
+
+-- the first stretch of a layer, and the stretch after one
+abbrev pub firstStretch : Sides → ℕ → Stretch
+firstStretch sides z = record { left = sides .nx; y = 0; s = layerFirst sides z; word = sides .words * (sides .ny * z) }
+
+abbrev pub nextStretch : Sides → Stretch → Stretch
+nextStretch sides at = record {
+  left = cond (leb (at .left) wordBits) (sides .nx) (at .left - wordCubes);
+  y = cond (leb (at .left) wordBits) (at .y + 1) (at .y);
+  s = at .s + ownSamples (at .left);
+  word = at .word + 1;
+}
+
+-- bit i of each word says whether the edge that leaves sample s + i along its axis is crossed, for so many samples, and no other bit is set
+pub record CutWords (sides : Sides) (masks : List ℕ) (s many : ℕ) (cuts : Cuts) : Type 0 where
+  pub along-x : (i : ℕ) → bit (cuts .x) i ≡ (ltb i many && cut sides masks (3 * (s + i)))
+  pub along-y : (i : ℕ) → bit (cuts .y) i ≡ (ltb i many && cut sides masks (3 * (s + i) + 1))
+  pub along-z : (i : ℕ) → bit (cuts .z) i ≡ (ltb i many && cut sides masks (3 * (s + i) + 2))
 
 -- the next number past an edge, which counts where the edge is crossed
 abbrev pub nextNumber : Bool → ℕ → ℕ

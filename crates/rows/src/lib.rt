@@ -1,94 +1,134 @@
-// The rows of a grid as masks, and which of the edges that leave a sample are crossed.
+// The rows of a grid in words, word after word, and which of the edges that leave a sample are crossed.
 ghost use mathlib.Core.Path.{_≡_};
-ghost use mathlib.Core.Bool.{true, cond, _&&_};
-ghost use Prim.Native.Nat.{_+_, _*_, _<_, _≤_};
+ghost use mathlib.Core.Bool.{true, cond};
+ghost use Prim.Native.Nat.{_<_};
 ghost use lib.ListN.{length, getD};
-ghost use Rattle.laws.specs.Bits.{wordBits};
-ghost use Rattle.rows.specs.Rows.{RowFrom, BusySamples, lowestDiffer, Parted, halvedBy};
+ghost use Rattle.laws.specs.Bits.{wordBits, bit};
+ghost use Rattle.grid.specs.Work.{SidesFit};
+ghost use Rattle.masks.specs.Masks.{rowWords};
+ghost use Rattle.rows.specs.Rows.{Ready, Stands, Small, firstStretch, nextStretch, ownSamples, cubesMask, samplesMask, CutWords};
+use masks::WORD_CUBES;
+use masks::WORD_SAMPLES;
 
-// The sides of a grid, and the mask of a row whose samples are all above.
+// The mask of all cubes of a word.
+const ALL_CUBES: u64 = 0x7fff_ffff_ffff_ffff;
+
+// The sides of a grid, how many words a row has, and the mask of the samples of a row's last word.
 pub struct Sides {
     pub nx: usize,
     pub ny: usize,
     pub nz: usize,
-    pub full: u64,
+    pub words: usize,
+    pub last: u64,
 }
 
-// The masks of a row, of the row behind it (along y) and of the row over it (along z), each halved as often as samples were passed. Where
-// the grid ends a row is its own neighbour, so that an edge which is not there is never crossed.
-pub struct Row {
-    pub here: u64,
-    pub behind: u64,
-    pub over: u64,
+// A stretch of a row, which is what one word has of it: how many samples the row has from its first on, its first sample's y and number, and its word's place.
+pub struct Stretch {
+    pub left: usize,
+    pub y: usize,
+    pub s: usize,
+    pub word: usize,
 }
 
-// Which of the three edges that leave a sample are crossed.
+// For each axis a word with a bit set where the edge that leaves a sample of a stretch along the axis is crossed.
 pub struct Cuts {
-    pub x: bool,
-    pub y: bool,
-    pub z: bool,
+    pub x: u64,
+    pub y: u64,
+    pub z: u64,
 }
 
-// The mask of a neighbouring row, or the row's own where the grid ends.
-fn neighbour(there: bool, row: usize, here: u64, masks: &[u64]) -> u64
-    requires { ⌜ (there ≡ true → row < length (now masks)) ⌝ }
-    ensures { λ r. ⌜ r ≡ cond there (getD (now (masks .entry)) row 0) here ⌝ }
-{
-    if there { masks[row] } else { here }
-}
-
-// The masks for the row at y, z, before its first sample.
-pub fn row_at(sides: Sides, y: usize, z: usize, masks: &[u64]) -> Row
-    requires { ⌜ sides .ny * sides .nz ≤ length (now masks) ⌝ }
-    requires { ⌜ y < sides .ny ⌝ }
+// The first stretch of a layer.
+pub fn first(sides: Sides, z: usize) -> Stretch
+    requires { ⌜ SidesFit (sides .nx) (sides .ny) (sides .nz) ⌝ }
+    requires { ⌜ sides .words ≡ rowWords (sides .nx) ⌝ }
     requires { ⌜ z < sides .nz ⌝ }
-    ensures { λ r. ⌜ RowFrom (sides .ny) (sides .nz) (now (masks .entry)) y z 0 r ⌝ }
+    ensures { λ r. ⌜ r ≡ firstStretch sides z ⌝ }
 {
-    let row = y + sides.ny * z;
-    let here = masks[row];
-    Row {
-        here,
-        behind: neighbour(y + 1 < sides.ny, row + 1, here, masks),
-        over: neighbour(z + 1 < sides.nz, row + sides.ny, here, masks),
+    let row = sides.ny * z;
+    Stretch {
+        left: sides.nx,
+        y: 0,
+        s: sides.nx * row,
+        word: sides.words * row,
     }
 }
 
-// The word whose bit x is set unless none of the three edges that leave sample x is crossed. The last sample's edge along x, which is not
-// there, may count as crossed.
-pub fn busy_word(row: Row, full: u64) -> u64
-    ensures { λ r. ⌜ BusySamples full row r ⌝ }
+// The stretch after one: further along its row, or the next row's first. Stretches of one row have a sample in common, which is the later one's own.
+pub fn next(sides: Sides, at: Stretch) -> Stretch
+    requires { ⌜ Small at ⌝ }
+    ensures { λ r. ⌜ r ≡ nextStretch sides at ⌝ }
 {
-    let along = row.here ^ (row.here / 2);
-    let aside = (row.here ^ row.behind) | (row.here ^ row.over);
-    full & (along | aside)
+    if at.left <= WORD_SAMPLES {
+        Stretch {
+            left: sides.nx,
+            y: at.y + 1,
+            s: at.s + at.left,
+            word: at.word + 1,
+        }
+    } else {
+        Stretch {
+            left: at.left - WORD_CUBES,
+            y: at.y,
+            s: at.s + WORD_CUBES,
+            word: at.word + 1,
+        }
+    }
 }
 
-// Is one of two samples above and the other below, by the lowest bits of their masks?
-fn differ(there: bool, a: u64, b: u64) -> bool
-    ensures { λ r. ⌜ r ≡ (there && lowestDiffer a b) ⌝ }
+// The mask of a stretch's cubes, whose first corners are its own samples but for the row's last.
+pub fn cubes_mask(sides: Sides, left: usize) -> u64
+    ensures { λ r. ⌜ r ≡ cubesMask sides left ⌝ }
 {
-    if there { a % 2 != b % 2 } else { false }
+    if left <= WORD_SAMPLES {
+        sides.last / 2
+    } else {
+        ALL_CUBES
+    }
 }
 
-// The crossed edges of the row's next sample. Past it along x the row may end.
-pub fn cuts_at(more: bool, row: Row) -> Cuts
-    ensures { λ r. ⌜ Parted more row r ⌝ }
+// The mask of a stretch's own samples.
+fn samples_mask(sides: Sides, left: usize) -> u64
+    ensures { λ r. ⌜ r ≡ samplesMask sides left ⌝ }
 {
+    if left <= WORD_SAMPLES {
+        sides.last
+    } else {
+        ALL_CUBES
+    }
+}
+
+// The word of a neighbouring row, or the row's own where the grid ends, so that an edge which is not there is never crossed.
+fn neighbour(there: bool, word: usize, here: u64, masks: &[u64]) -> u64
+    requires { ⌜ (there ≡ true → word < length (now masks)) ⌝ }
+    ensures { λ r. ⌜ r ≡ cond there (getD (now (masks .entry)) word 0) here ⌝ }
+{
+    if there { masks[word] } else { here }
+}
+
+// The crossed edges of a stretch's own samples.
+pub fn cuts_at(sides: Sides, at: Stretch, z: usize, masks: &[u64]) -> Cuts
+    requires { ⌜ Ready sides (now masks) ⌝ }
+    requires { ⌜ Stands sides z at ⌝ }
+    requires { ⌜ at .y < sides .ny ⌝ }
+    requires { ⌜ z < sides .nz ⌝ }
+    ensures { λ r. ⌜ CutWords sides (now (masks .entry)) (at .s) (ownSamples (at .left)) r ⌝ }
+{
+    let word = at.word;
+    let here = masks[word];
+    let behind = neighbour(at.y + 1 < sides.ny, word + sides.words, here, masks);
+    let over = neighbour(z + 1 < sides.nz, word + sides.words * sides.ny, here, masks);
+    let own = samples_mask(sides, at.left);
     Cuts {
-        x: differ(more, row.here, row.here / 2),
-        y: differ(true, row.here, row.behind),
-        z: differ(true, row.here, row.over),
+        x: (here ^ (here / 2)) & cubes_mask(sides, at.left),
+        y: (here ^ behind) & own,
+        z: (here ^ over) & own,
     }
 }
 
-// The row with its first x samples passed.
-pub fn passed(row: Row, x: usize) -> Row
-    requires { ⌜ x < wordBits ⌝ }
-    ensures { λ r. ⌜ r ≡ halvedBy row x ⌝ }
+// Is a bit of a word set?
+pub fn is_set(word: u64, i: u32) -> bool
+    requires { ⌜ i < wordBits ⌝ }
+    ensures { λ r. ⌜ r ≡ bit word i ⌝ }
 {
-    Row {
-        here: row.here >> x,
-        behind: row.behind >> x,
-        over: row.over >> x,
-    }
+    (word >> i) % 2 == 1
 }

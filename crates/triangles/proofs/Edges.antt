@@ -3,7 +3,6 @@ use mathlib.Core.Path.{_≡_, refl, ap, _∙_}
 use mathlib.Core.Bool.{true}
 use mathlib.Core.List.{map}
 use Prim.Native.Nat.{ℕ, _+_, _*_, _<_}
-use native.Mathlib.Nat.{mul-assoc, mul-add}
 use native.Mathlib.Omega.{arith}
 use borrow.Author.Tests.{eqb-true}
 use lib.Dec.{eqb}
@@ -28,10 +27,7 @@ offset-at nx ny e h =
     ∙ ap (edgeOffset nx ny) (eqb-true _ e (all-at cubeEdgeCount (λ e. eqb (getD cubeEdges e 0) e) every-edge-listed e h))
 
 module _ (n : Size) (x y z : ℕ) where
-  -- a cube edge's grid edge, counted on from the first grid edge of the cube's layer, row and first corner
-  pub edge-place : (e : ℕ) → 3 * n .nx * n .ny * z + 3 * n .nx * y + 3 * x + edgeOffset (n .nx) (n .ny) e ≡ gridEdge n x y z e
+  -- a cube edge's grid edge, counted on from the first grid edge of the cube's first corner
+  pub edge-place : (e : ℕ) → 3 * (x + n .nx * (y + n .ny * z)) + edgeOffset (n .nx) (n .ny) e ≡ gridEdge n x y z e
   unfolding gridEdge cornerSite edgeOffset site
-  edge-place e =
-      let c = lowCorner e in
-      rw (mul-assoc (3 * n .nx) (n .ny) z, mul-assoc 3 (n .nx) (n .ny * z), mul-assoc 3 (n .nx) y)
-      (omega (arith, site-add n x y z (cornerX c) (cornerY c) (cornerZ c), mul-add (n .nx) y (n .ny * z)))
+  edge-place e = let c = lowCorner e in omega (arith, site-add n x y z (cornerX c) (cornerY c) (cornerZ c))

@@ -18,59 +18,52 @@ use Rattle.cube.proofs.Corners.{case-small}
 use Rattle.cube.proofs.Cases.{CrossedEdge}
 use Rattle.grid.specs.Grid.{Size, axes, edgeCount}
 use Rattle.grid.specs.Mesh.{cornerSite, gridEdge, caseAt, cubeTriangles, edgeMesh}
-use Rattle.grid.specs.Work.{size, SidesFit, nameOf, Nameable, NamesFit}
+use Rattle.grid.specs.Work.{SidesFit, nameOf, Nameable, NamesFit}
 use Rattle.grid.proofs.Sides.{samples-most}
 use Rattle.grid.proofs.Edges.{grid-edge-small}
 use Rattle.masks.specs.Masks.{maskAbove}
-use Rattle.cuberows.specs.Row.{masksAt, rowCase}
-use Rattle.cuberows.proofs.Cases.{case-of-masks}
-use Rattle.triangles.specs.Names.{edgeOffset, cornerName, cubeNames, layerNames}
+use Rattle.rows.specs.declared.Sides.{Sides}
+use Rattle.rows.specs.Rows.{sizeOf}
+use Rattle.triangles.specs.Names.{edgeOffset, cornerName, cubeNames, gridNames, layerNames}
 use Rattle.triangles.specs.Walk.{Written}
 use Rattle.triangles.proofs.Table.{corners-crossed}
 use Rattle.triangles.proofs.Edges.{offset-at, edge-place}
 
--- what is written for layer z
-abbrev pub layerOf : List ℕ → List ℕ → ℕ → ℕ → List ℕ → ℕ → List ℕ
-layerOf offsets names nx ny masks z = layerNames offsets names nx ny (ny - 1) masks (ny * z) (3 * nx * ny * z)
-
-module _ (nx ny nz : ℕ) (masks names offsets : List ℕ) (right : offsets ≡ map (edgeOffset nx ny) cubeEdges) where
+module _ (sides : Sides) (masks names offsets : List ℕ) (right : offsets ≡ map (edgeOffset (sides .nx) (sides .ny)) cubeEdges) where
   abbrev n : Size
-  n = size nx ny nz
+  n = sizeOf sides
 
   abbrev above : ℕ → Bool
-  above = maskAbove nx masks
+  above = maskAbove (sides .nx) masks
 
   abbrev all : List ℕ
-  all = joinTo (nz - 1) (layerOf offsets names nx ny masks)
+  all = joinTo (sides .nz - 1) (layerNames offsets names sides masks)
 
   -- the grid edge of edge e of the cube at (x, y, z), as the code counts it
-  edge-is : (x y z e : ℕ) → e < cubeEdgeCount → 3 * nx * ny * z + 3 * nx * y + 3 * x + getD offsets e 0 ≡ gridEdge n x y z e
-  edge-is x y z e h = rw (right, offset-at nx ny e h) (edge-place n x y z e)
+  edge-is : (x y z e : ℕ) → e < cubeEdgeCount → 3 * (x + sides .nx * (y + sides .ny * z)) + getD offsets e 0 ≡ gridEdge n x y z e
+  edge-is x y z e h = rw (right, offset-at (sides .nx) (sides .ny) e h) (edge-place n x y z e)
 
   -- where there is a name for each grid edge, or none at all, each can be called by its name
-  pub edge-nameable : SidesFit nx ny nz → NamesFit (edgeCount axes n) names → (x y z e : ℕ) → x + 1 < nx → y + 1 < ny → z + 1 < nz → e < cubeEdgeCount
-      → Nameable names (3 * nx * ny * z + 3 * nx * y + 3 * x + getD offsets e 0)
+  pub edge-nameable : SidesFit (sides .nx) (sides .ny) (sides .nz) → NamesFit (edgeCount axes n) names → (x y z e : ℕ) → x + 1 < sides .nx → y + 1 < sides .ny → z + 1 < sides .nz
+      → e < cubeEdgeCount → Nameable names (3 * (x + sides .nx * (y + sides .ny * z)) + getD offsets e 0)
   edge-nameable fit given x y z e hx hy hz h =
       let small : gridEdge n x y z e < edgeCount axes n = grid-edge-small n x y z hx hy hz e h in
       rw (edge-is x y z e h)
       (record {
-        fits = omega (arith, samples-most nx ny nz fit);
+        fits = omega (arith, samples-most (sides .nx) (sides .ny) (sides .nz) fit);
         listed = λ some. omega (arith, given some);
       })
 
-  cube-named : (x y z : ℕ) → x + 1 < nx
-      → cubeNames offsets names (3 * nx * ny * z + 3 * nx * y + 3 * x) (rowCase (masksAt masks ny (ny * z + y)) x)
-      ≡ map (nameOf names) (flat (cubeTriangles n above x y z))
+  cube-named : (x y z : ℕ) → gridNames offsets names sides masks z x y ≡ map (nameOf names) (flat (cubeTriangles n above x y z))
   unfolding cubeNames cubeTriangles
-  cube-named x y z hx =
+  cube-named x y z =
       let k = caseAt n above x y z in
       let small : k < cases = unfold caseAt in case-small (λ c. above (cornerSite n x y z c)) in
       rw (
-        case-of-masks nx ny nz masks x y z hx,
         flat-renamed (gridEdge n x y z) (triangles k),
         map-map (nameOf names) (gridEdge n x y z) (flat (triangles k)),
       )
-      (map-cong (CrossedEdge k) (cornerName offsets names (3 * nx * ny * z + 3 * nx * y + 3 * x)) (λ e. nameOf names (gridEdge n x y z e))
+      (map-cong (CrossedEdge k) (cornerName offsets names (3 * (x + sides .nx * (y + sides .ny * z)))) (λ e. nameOf names (gridEdge n x y z e))
       (λ e c. ap (nameOf names) (edge-is x y z e (c .small)))
       (flat (triangles k))
       (corners-crossed k small))
@@ -78,12 +71,10 @@ module _ (nx ny nz : ℕ) (masks names offsets : List ℕ) (right : offsets ≡ 
   grid-named : all ≡ map (nameOf names) (flat (edgeMesh n above))
   unfolding flat edgeMesh joinBox
   grid-named =
-      join-box-cong (nx - 1) (ny - 1) (nz - 1)
-      (λ x y z. cubeNames offsets names (3 * nx * ny * z + 3 * nx * y + 3 * x) (rowCase (masksAt masks ny (ny * z + y)) x))
-      (λ x y z. map (nameOf names) (flat (cubeTriangles n above x y z)))
-      (λ x y z lx ly lz. cube-named x y z (omega arith))
-      ∙ sym (map-box (nx - 1) (ny - 1) (nz - 1) (nameOf names) (λ x y z. flat (cubeTriangles n above x y z)))
-      ∙ ap (map (nameOf names)) (sym (flat-box (nx - 1) (ny - 1) (nz - 1) cornersOf (cubeTriangles n above)))
+      join-box-cong (sides .nx - 1) (sides .ny - 1) (sides .nz - 1) (λ x y z. gridNames offsets names sides masks z x y) (λ x y z. map (nameOf names) (flat (cubeTriangles n above x y z)))
+      (λ x y z lx ly lz. cube-named x y z)
+      ∙ sym (map-box (sides .nx - 1) (sides .ny - 1) (sides .nz - 1) (nameOf names) (λ x y z. flat (cubeTriangles n above x y z)))
+      ∙ ap (map (nameOf names)) (sym (flat-box (sides .nx - 1) (sides .ny - 1) (sides .nz - 1) cornersOf (cubeTriangles n above)))
 
   pub grid-length : length all ≡ 3 * length (edgeMesh n above)
   grid-length = ap length grid-named ∙ length-map (flat (edgeMesh n above)) (nameOf names) ∙ length-corners (edgeMesh n above)

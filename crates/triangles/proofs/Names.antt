@@ -1,13 +1,11 @@
 -- What is written for a cube, and lists that are written one after the other.
 use mathlib.Core.Path.{_≡_, refl, ap, sym, _∙_}
-use mathlib.Core.List.{List, [], _∷_}
+use mathlib.Core.List.{List, [], _∷_, _++_}
 use Prim.Native.Nat.{ℕ, _+_, _*_, _<_, _≤_}
 use native.Mathlib.Omega.{arith}
 use lib.ListN.{length, getD, length-map, length-append}
 use lib.Seq.{length-sets}
-use Rattle.laws.specs.Range.{joinTo}
 use Rattle.laws.specs.Mesh.{flat}
-use Rattle.laws.proofs.Ranges.{join-next, join-quiet, join-room}
 use Rattle.laws.proofs.Writes.{sets-append}
 use Rattle.laws.proofs.Lists.{all-get, map-at}
 use Rattle.laws.proofs.Sides.{length-corners}
@@ -49,25 +47,17 @@ module _ (offsets names : List ℕ) (edge k : ℕ) where
     unfolding cubeNames count
     corner-is e = rw (e, edge-read) (sym (map-at (cornerName offsets names edge) (flat (triangles k)) j 0 0 (omega (arith, length-corners (triangles k)))))
 
--- lists written one after the other: none yet, one more, some that are empty, and the room that is left for the next
-module _ (f : ℕ → List ℕ) where
-  pub written-none : (room : List ℕ) (at : ℕ) → Written room room at (joinTo 0 f) at
-  unfolding joinTo
-  written-none room at = record { room = refl; end = omega arith }
+-- lists written one after the other: none yet, and one more
+pub written-none : (room : List ℕ) (at : ℕ) → Written room room at [] at
+written-none room at = record { room = refl; end = omega arith }
 
-  module _ {entry mid : List ℕ} {at to : ℕ} (n : ℕ) (w : Written entry mid at (joinTo n f) to) where
-    pub written-more : {exit : List ℕ} {next : ℕ} → Written mid exit to (f n) next → Written entry exit at (joinTo (n + 1) f) next
-    written-more v =
-        record {
-          room = v .room ∙ rw (w .room, w .end, join-next n f) (sets-append entry at (joinTo n f) (f n));
-          end = rw (join-next n f, length-append) (omega arith);
-        }
-
-    pub written-quiet : (m : ℕ) → n ≤ m → ((i : ℕ) → n ≤ i → i < m → f i ≡ []) → Written entry mid at (joinTo m f) to
-    written-quiet m h q = rw (join-quiet n m f h q) w
-
-    pub written-room : (m : ℕ) → n < m → at + length (joinTo m f) ≤ length entry → to + length (f n) ≤ length mid
-    written-room m h r = rw (w .room, length-sets) (omega (arith, w .end, join-room n m f h))
+pub written-on : {entry mid exit : List ℕ} {at to next : ℕ} (xs ys : List ℕ) → Written entry mid at xs to → Written mid exit to ys next → Written entry exit at (xs ++ ys) next
+written-on {entry} {mid} {exit} {at} {to} {next} xs ys w v =
+    record { room = v .room ∙ rw (w .room, w .end) (sets-append entry at xs ys); end = rw length-append (omega (arith, w .end, v .end)) }
 
 pub written-length : {entry exit : List ℕ} {at next : ℕ} {list : List ℕ} → Written entry exit at list next → length exit ≡ length entry
 written-length {entry} {exit} {at} {next} {list} w = ap length (w .room) ∙ length-sets entry at list
+
+-- and the room that is left for the next
+pub written-room : {entry mid : List ℕ} {at to : ℕ} (xs : List ℕ) (more most : ℕ) → Written entry mid at xs to → length xs + more ≤ most → at + most ≤ length entry → to + more ≤ length mid
+written-room xs more most w h r = omega (arith, w .end, written-length w)

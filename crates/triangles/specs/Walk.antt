@@ -1,14 +1,17 @@
 -- What the parts that write rely on, and what they leave.
 use mathlib.Core.Path.{_≡_}
+use mathlib.Core.Bool.{true}
 use mathlib.Core.List.{List}
-use Prim.Native.Nat.{ℕ, _+_, _*_, _-_, _<_, _≤_}
+use Prim.Native.Nat.{ℕ, _+_, _*_, _<_, _≤_}
 use lib.ListN.{length, getD}
 use lib.Seq.{sets}
+use Rattle.laws.specs.Bits.{bit}
 use Rattle.cube.specs.Cube.{cubeEdgeCount, cases}
 use Rattle.cube.specs.Answer.{count, caseLength}
 use Rattle.grid.specs.Work.{Nameable}
-use Rattle.cuberows.specs.declared.RowMasks.{RowMasks}
-use Rattle.triangles.specs.Names.{rowNames, layerNames}
+use Rattle.rows.specs.declared.Sides.{Sides}
+use Rattle.cuberows.specs.declared.Corners.{Corners}
+use Rattle.triangles.specs.Names.{stretchNames, layerNames}
 
 -- a corner's edge is read from the table, and its grid edge can be called by its name
 pub record CornerFits (rows offsets names : List ℕ) (place edge : ℕ) : Type 0 where
@@ -23,13 +26,13 @@ pub record CubeRoom (offsets names room : List ℕ) (case many edge at : ℕ) : 
   pub named : (e : ℕ) → e < cubeEdgeCount → Nameable names (edge + getD offsets e 0)
   pub holds : at + many ≤ length room
 
-pub record RowRoom (offsets names room : List ℕ) (cubes : ℕ) (row : RowMasks) (edge at : ℕ) : Type 0 where
-  pub named : (x e : ℕ) → x < cubes → e < cubeEdgeCount → Nameable names (edge + 3 * x + getD offsets e 0)
-  pub holds : at + length (rowNames offsets names cubes row edge) ≤ length room
+pub record StretchRoom (offsets names room : List ℕ) (m : Corners) (cubes edge at : ℕ) : Type 0 where
+  pub named : (i e : ℕ) → bit cubes i ≡ true → e < cubeEdgeCount → Nameable names (edge + 3 * i + getD offsets e 0)
+  pub holds : at + length (stretchNames offsets names m cubes edge) ≤ length room
 
-pub record LayerRoom (offsets names room : List ℕ) (nx ny : ℕ) (masks : List ℕ) (first edge at : ℕ) : Type 0 where
-  pub named : (x y e : ℕ) → x + 1 < nx → y + 1 < ny → e < cubeEdgeCount → Nameable names (edge + 3 * nx * y + 3 * x + getD offsets e 0)
-  pub holds : at + length (layerNames offsets names nx ny (ny - 1) masks first edge) ≤ length room
+pub record LayerRoom (offsets names room : List ℕ) (sides : Sides) (masks : List ℕ) (z at : ℕ) : Type 0 where
+  pub named : (x y e : ℕ) → x + 1 < sides .nx → y + 1 < sides .ny → e < cubeEdgeCount → Nameable names (3 * (x + sides .nx * (y + sides .ny * z)) + getD offsets e 0)
+  pub holds : at + length (layerNames offsets names sides masks z) ≤ length room
 
 -- the list stands in the room from `at` on, and `next` is the place after it
 pub record Written (entry exit : List ℕ) (at : ℕ) (list : List ℕ) (next : ℕ) : Type 0 where

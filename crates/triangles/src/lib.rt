@@ -1,10 +1,9 @@
-// The triangles of a grid, written cube by cube from the masks of its rows.
+// The triangles of a grid, written cube by cube from the words of its rows.
 ghost use mathlib.Core.Path.{_≡_};
 ghost use mathlib.Core.List.{map};
-ghost use Prim.Native.Nat.{_+_, _*_, _-_, _≤_, _<_};
+ghost use Prim.Native.Nat.{_+_, _*_, _≤_, _<_};
 ghost use lib.ListN.{length, getD};
 ghost use lib.Seq.{sets};
-ghost use Rattle.laws.specs.Bits.{wordBits};
 ghost use Rattle.laws.specs.Room.{laid};
 ghost use Rattle.laws.specs.Mesh.{flat};
 ghost use Rattle.cube.specs.Cube.{cubeEdges};
@@ -13,15 +12,15 @@ ghost use Rattle.grid.specs.Limits.{mostSide};
 ghost use Rattle.grid.specs.Grid.{axes, edgeCount};
 ghost use Rattle.grid.specs.Mesh.{edgeMesh};
 ghost use Rattle.grid.specs.Work.{size, SidesFit, nameOf, Nameable, NamesFit};
-ghost use Rattle.masks.specs.Masks.{maskAbove, AllSet};
-ghost use Rattle.cuberows.specs.Walk.{LayerFits};
-ghost use Rattle.triangles.specs.Names.{edgeOffset, cornerName, cubeNames, rowNames, layerNames};
-ghost use Rattle.triangles.specs.Walk.{CornerFits, CubeRoom, RowRoom, LayerRoom, Written};
+ghost use Rattle.masks.specs.Masks.{rowWords, maskAbove, Agreeing};
+ghost use Rattle.rows.specs.Rows.{Ready};
+ghost use Rattle.triangles.specs.Names.{edgeOffset, cornerName, cubeNames, stretchNames, layerNames};
+ghost use Rattle.triangles.specs.Walk.{CornerFits, CubeRoom, StretchRoom, LayerRoom, Written};
 use cube::CASE_LENGTH;
 use cube::CASES;
 use cube::TABLE;
-use cuberows::Layer;
-use cuberows::RowMasks;
+use cuberows::Corners;
+use rows::Sides;
 
 // How far the grid edge of each cube edge is from the first grid edge of the cube's first corner.
 fn edge_offsets(nx: usize, ny: usize) -> [usize; 12]
@@ -89,46 +88,38 @@ fn write_cube(
     }
 }
 
-// Writes the triangles of a row of cubes, and answers where it stopped.
-fn write_row(
+// Writes the triangles of some cubes of a stretch, a bit each, and answers where it stopped; `edge` is the first grid edge of the stretch's first corner.
+fn write_stretch(
     rows: &[u8; TABLE],
     counts: &[u8; CASES],
     offsets: &[usize; 12],
     names: &[u32],
     triangles: &mut [u32],
-    row: RowMasks,
-    cubes: usize,
-    full: u64,
+    corners: Corners,
+    cubes: u64,
     edge: usize,
     at: usize,
 ) -> usize
     requires { ⌜ Rows (now rows) ⌝ }
     requires { ⌜ Counts (now counts) ⌝ }
-    requires { ⌜ cubes < wordBits ⌝ }
-    requires { ⌜ AllSet (cubes + 1) full ⌝ }
-    requires { ⌜ RowRoom (now offsets) (now names) (now triangles) cubes row edge at ⌝ }
-    ensures { λ r. ⌜ Written (now (triangles .entry)) (now (triangles .exit)) at (rowNames (now (offsets .entry)) (now (names .entry)) cubes row edge) r ⌝ }
+    requires { ⌜ StretchRoom (now offsets) (now names) (now triangles) corners cubes edge at ⌝ }
+    ensures { λ r. ⌜ Written (now (triangles .entry)) (now (triangles .exit)) at (stretchNames (now (offsets .entry)) (now (names .entry)) corners cubes edge) r ⌝ }
 {
-    let mut busy = row.busy(full);
-    let mut rest = row;
-    let mut here = edge;
+    let mut busy = cubes;
     let mut to = at;
     while busy != 0 {
-        let skip = u64::trailing_zeros(busy);
-        rest = rest.after(skip);
-        here += 3 * (skip as usize);
-        let case = rest.case();
+        let i = u64::trailing_zeros(busy);
+        let here = edge + 3 * (i as usize);
+        let case = corners.case(i);
         let many = 3 * (counts[case] as usize);
         write_cube(rows, offsets, names, triangles, case, many, here, to);
         to += many;
-        here += 3;
-        rest = rest.next();
-        busy = (busy >> skip) / 2;
+        busy = busy & (busy - 1);
     }
     to
 }
 
-// Writes the triangles of a layer of cubes whose first grid edge is `edge`, and answers where it stopped.
+// Writes the triangles of a layer of cubes, and answers where it stopped.
 fn write_layer(
     rows: &[u8; TABLE],
     counts: &[u8; CASES],
@@ -136,37 +127,35 @@ fn write_layer(
     masks: &[u64],
     names: &[u32],
     triangles: &mut [u32],
-    layer: Layer,
-    edge: usize,
-    at: usize,
+    sides: Sides,
+    z: usize,
+    from: usize,
 ) -> usize
     requires { ⌜ Rows (now rows) ⌝ }
     requires { ⌜ Counts (now counts) ⌝ }
-    requires { ⌜ LayerFits layer (now masks) ⌝ }
-    requires { ⌜ LayerRoom (now offsets) (now names) (now triangles) (layer .nx) (layer .ny) (now masks) (layer .first) edge at ⌝ }
-    ensures { λ r.
-        let list = layerNames (now (offsets .entry)) (now (names .entry)) (layer .nx) (layer .ny) (layer .ny - 1) (now (masks .entry)) (layer .first) edge in
-        ⌜ Written (now (triangles .entry)) (now (triangles .exit)) at list r ⌝ }
+    requires { ⌜ Ready sides (now masks) ⌝ }
+    requires { ⌜ z + 1 < sides .nz ⌝ }
+    requires { ⌜ LayerRoom (now offsets) (now names) (now triangles) sides (now masks) z from ⌝ }
+    ensures { λ r. ⌜ Written (now (triangles .entry)) (now (triangles .exit)) from (layerNames (now (offsets .entry)) (now (names .entry)) sides (now (masks .entry)) z) r ⌝ }
 {
-    let last = layer.ny - 1;
-    let step = 3 * layer.nx;
-    let mut here = edge;
-    let mut to = at;
-    for y in 0..last {
-        let row = cuberows::masks_at(masks, layer.ny, layer.first + y);
-        to = write_row(
+    let mut at = rows::first(sides, z);
+    let mut to = from;
+    while at.y + 1 < sides.ny {
+        let corners = cuberows::corners_at(sides, at.word, masks);
+        let busy = corners.busy(rows::cubes_mask(sides, at.left));
+        let edge = 3 * at.s;
+        to = write_stretch(
             rows,
             counts,
             offsets,
             names,
             triangles,
-            row,
-            layer.nx - 1,
-            layer.full,
-            here,
+            corners,
+            busy,
+            edge,
             to,
         );
-        here += step;
+        at = rows::next(sides, at);
     }
     to
 }
@@ -174,41 +163,37 @@ fn write_layer(
 // Writes the triangles to the front of their room, each corner as its grid edge is called: `names` has a name for each grid edge, or none at all.
 pub fn write(nx: usize, ny: usize, nz: usize, masks: &[u64], names: &[u32], triangles: &mut [u32])
     requires { ⌜ SidesFit nx ny nz ⌝ }
-    requires { ⌜ ny * nz ≤ length (now masks) ⌝ }
+    requires { ⌜ rowWords nx * (ny * nz) ≤ length (now masks) ⌝ }
+    requires { ⌜ Agreeing nx (ny * nz) (now masks) ⌝ }
     requires { ⌜ NamesFit (edgeCount axes (size nx ny nz)) (now names) ⌝ }
     requires { ⌜ 3 * length (edgeMesh (size nx ny nz) (maskAbove nx (now masks))) ≤ length (now triangles) ⌝ }
     ensures { λ _.
         let corners = flat (edgeMesh (size nx ny nz) (maskAbove nx (now (masks .entry)))) in
         ⌜ now (triangles .exit) ≡ laid (map (nameOf (now (names .entry))) corners) (now (triangles .entry)) ⌝ }
 {
-    let rows = cube::rows();
+    let table = cube::rows();
     let counts = cube::counts();
     let offsets = edge_offsets(nx, ny);
-    let full = masks::full_mask(nx);
+    let sides = Sides {
+        nx,
+        ny,
+        nz,
+        words: masks::row_words(nx),
+        last: masks::last_mask(nx),
+    };
     let last = nz - 1;
-    let step = 3 * nx * ny;
-    let mut first = 0;
-    let mut edge = 0;
     let mut to = 0;
-    for _ in 0..last {
-        let layer = Layer {
-            nx,
-            ny,
-            full,
-            first,
-        };
+    for z in 0..last {
         to = write_layer(
-            &rows,
+            &table,
             &counts,
             &offsets,
             masks,
             names,
             triangles,
-            layer,
-            edge,
+            sides,
+            z,
             to,
         );
-        first += ny;
-        edge += step;
     }
 }

@@ -1,82 +1,145 @@
--- `cuberows::count_layer` meets its contract. The loop's invariant: the sum is that of the rows passed. Assumes nothing.
-use mathlib.Core.Path.{_≡_, ap, _∙_}
-use Prim.Native.Nat.{_+_, _-_, _≤_}
+-- `cuberows::count_layer` meets its contract. The loop's invariant: the cubes before a stretch are counted. Assumes nothing.
+use mathlib.Core.Path.{_≡_, refl, ap, ap₂, subst⁻¹, _∙_}
+use Prim.Native.Nat.{_+_, _*_, _-_}
 use native.Mathlib.Omega.{arith}
-use Rattle.cuberows.specs.Row.{masksAt, rowCount, layerCount}
-use Rattle.cuberows.proofs.Steps.{above-row, row-count-most, layer-count-first, layer-count-next, layer-count-most}
+use borrow.Author.Needs.{needs}
+use Rattle.laws.proofs.Ranges.{sum-split}
+use Rattle.cube.specs.Answer.{count}
+use Rattle.masks.specs.Masks.{rowWords}
+use Rattle.rows.specs.Rows.{Stands, firstX, ownCubes, cubesMask, firstStretch}
+use Rattle.rows.proofs.Stretches.{stands-first, stands-next, word-there, stretch-small, cubes-most}
+use Rattle.cuberows.specs.Cubes.{cornersAt, BusyCubes, stretchCount, cubeCase}
+use Rattle.cuberows.proofs.Layers.{countedTo, counted-none, counted-row, counted-all, counted-most, Within, cubes-next, corners-there, stretch-count}
 use Rattle.cuberows.proofs.count_layer.Statement.{statement}
 use Rattle.cuberows.proofs.count_layer.Tie as tie
 
 abbrev Inv-loop : tie.InvT-loop
-Inv-loop counts masks layer last sum₀ y₀ sum y = (y ≤ layer .ny - 1) × (sum ≡ layerCount (layer .nx) (layer .ny) y masks (layer .first))
+Inv-loop counts sides z masks at₀ sum₀ at sum = Stands sides z at × Within sides (firstX sides at) (at .y) × (sum ≡ countedTo sides masks z (firstX sides at) (at .y))
 
 abbrev μ-loop : tie.MeasureT-loop
-μ-loop counts masks layer last sum₀ y₀ sum y = layer .ny - 1 - y
+μ-loop counts sides z masks at₀ sum₀ at sum = rowWords (sides .nx) * (sides .ny * sides .nz) - at .word
 
-sub-last : tie.Need-sub-last Inv-loop μ-loop
-sub-last c = omega (arith, c .before .before .pre .1)
+first-requires : tie.Need-first-requires Inv-loop μ-loop
+first-requires c κs =
+    let s = c .before in
+    (s .pre .1 .0 .fit, (s .pre .1 .0 .words, omega (arith, s .pre .1 .1)))
 
 loop-holds : tie.Need-loop-holds Inv-loop μ-loop
-loop-holds c = (omega arith, layer-count-first _ _ _ _)
+loop-holds c =
+    let s = c .before .before in
+    let a = s .args in
+    let ready = s .pre .1 .0 in
+    let none : firstX (a .sides) (firstStretch (a .sides) (a .z)) ≡ 0 = omega arith in
+    subst⁻¹ (λ at. Stands (a .sides) (a .z) at × Within (a .sides) (firstX (a .sides) at) (at .y) × (0 ≡ countedTo (a .sides) (a .masks .now) (a .z) (firstX (a .sides) at) (at .y)))
+    (c .first .ensures) (
+      stands-first (a .sides) (ready .fit) (ready .words) (a .z),
+      (omega (arith, ready .fit .least-y), λ e. none),
+      rw none (counted-none (a .sides) (a .masks .now) (a .z)),
+    )
+
+add-if1 : tie.Need-add-if1 Inv-loop μ-loop
+add-if1 c = omega (arith, c .before .loop .inv .1 .0, c .before .before .before .before .pre .1 .0 .fit .most-y)
 
 -- from a turn back to the function's entry
-abbrev begun : tie.In-loop Inv-loop μ-loop → tie.Start Inv-loop μ-loop
-begun c = c .before .before .before .before
+abbrev begun : tie.Then1 Inv-loop μ-loop → tie.Start Inv-loop μ-loop
+begun c = c .before .before .before .before .before .before
 
-add-masks-at : tie.Need-add-masks-at Inv-loop μ-loop
-add-masks-at c = omega (arith, begun (c .before) .pre .1)
+corners-at-requires : tie.Need-corners-at-requires Inv-loop μ-loop
+corners-at-requires c κs =
+    let s = begun c in
+    let l = c .before .before .before .loop in
+    corners-there (s .args .sides) (s .args .masks .now) (s .pre .1 .0) (s .args .z) (l .at) (l .inv .0) (c .if1 .taken) (s .pre .1 .1)
 
-masks-at-requires : tie.Need-masks-at-requires Inv-loop μ-loop
-masks-at-requires c κs = omega (arith, begun (c .before) .pre .1)
+cubes-mask-requires : tie.Need-cubes-mask-requires Inv-loop μ-loop
+cubes-mask-requires c κs = search needs
 
-sub-count-row : tie.Need-sub-count-row Inv-loop μ-loop
-sub-count-row c = omega (arith, begun (c .before .before .before) .pre .1)
+busy-requires : tie.Need-busy-requires Inv-loop μ-loop
+busy-requires c κs = search needs
 
-count-row-requires : tie.Need-count-row-requires Inv-loop μ-loop
-count-row-requires c κs =
-    let pre = begun (c .before .before .before) .pre in
-    (pre .0, (omega (arith, pre .1), above-row _ _ (pre .1)))
+count-stretch-requires : tie.Need-count-stretch-requires Inv-loop μ-loop
+count-stretch-requires c κs = begun (c .before .before .before) .pre .0
 
--- what the row added, in the words of the definitions
-row-is : (c : tie.After-count-row Inv-loop μ-loop)
+-- what is counted of the stretch, and what then is counted in all
+added : (c : tie.After-count-stretch Inv-loop μ-loop)
     → let here = c .before .before .before .before in
-    let layer = begun here .args .layer in
-    c .count-row .result ≡ rowCount (layer .nx - 1) (masksAt (begun here .args .masks .now) (layer .ny) (layer .first + here .before .loop .y))
-row-is c = c .count-row .ensures ∙ ap (rowCount _) (c .before .before .masks-at .ensures)
+    let a = begun here .args in
+    let l = here .before .before .before .loop in
+    l .sum + c .count-stretch .result ≡ countedTo (a .sides) (a .masks .now) (a .z) (firstX (a .sides) (l .at) + ownCubes (l .at .left)) (l .at .y)
+added c =
+    let here = c .before .before .before .before in
+    let s = begun here in
+    let a = s .args in
+    let l = here .before .before .before .loop in
+    let corners = c .before .before .before .corners-at .ensures in
+    let mask = c .before .before .cubes-mask .ensures in
+    let busy : BusyCubes (cornersAt (a .masks .now) (a .sides .words) (a .sides .ny) (l .at .word)) (cubesMask (a .sides) (l .at .left)) (c .before .busy .result)
+    = rw (← corners, ← mask) (c .before .busy .ensures) in
+    let mine = ap (λ m. stretchCount m (c .before .busy .result)) corners in
+    omega (
+      arith,
+      l .inv .2,
+      c .count-stretch .ensures,
+      mine,
+      stretch-count (a .sides) (a .masks .now) (s .pre .1 .0) (a .z) (l .at) (l .inv .0) (here .if1 .taken) (s .pre .1 .1) (c .before .busy .result) busy,
+      sum-split (firstX (a .sides) (l .at)) (ownCubes (l .at .left)) (λ x. count (cubeCase (a .sides) (a .masks .now) (a .z) x (l .at .y))),
+    )
 
 add-sum : tie.Need-add-sum Inv-loop μ-loop
 add-sum c =
     let here = c .before .before .before .before in
-    let a = begun here .args in
-    let layer = a .layer in
-    let l = here .before .loop in
+    let s = begun here in
+    let a = s .args in
+    let l = here .before .before .before .loop in
+    let fit = s .pre .1 .0 .fit in
     omega (
       arith,
-      row-is c,
-      l .inv,
-      row-count-most (masksAt (a .masks .now) (layer .ny) (layer .first + l .y)) (layer .nx - 1),
-      layer-count-most (layer .nx) (layer .ny) (a .masks .now) (layer .first) (l .y) (begun here .pre .1 .most-x),
-      begun here .pre .1,
+      added c,
+      counted-most (a .sides) (a .masks .now) (a .z) (firstX (a .sides) (l .at) + ownCubes (l .at .left)) (l .at .y) (fit .most-x),
+      cubes-most (a .sides) (a .z) (l .at) (l .inv .0),
+      l .inv .0 .along,
+      l .inv .1 .0,
+      fit .most-x,
+      fit .most-y,
     )
 
-add-y : tie.Need-add-y Inv-loop μ-loop
-add-y c = omega (arith, begun (c .before .before .before .before) .pre .1)
+next-requires : tie.Need-next-requires Inv-loop μ-loop
+next-requires c κs =
+    let here = c .before .before .before .before in
+    let s = begun here in
+    let l = here .before .before .before .loop in
+    stretch-small (s .args .sides) (s .args .z) (l .at) (l .inv .0) (l .inv .1 .0) (omega (arith, s .pre .1 .1)) (s .pre .1 .0 .fit)
 
 loop-less : tie.Need-loop-less Inv-loop μ-loop
-loop-less c = omega (arith, c .before .before .before .before)
+loop-less c =
+    let here = c .before .before .before .before .before in
+    let s = begun here in
+    let l = here .before .before .before .loop in
+    omega (arith, ap (λ at. at .word) (c .next .ensures), word-there (s .args .sides) (s .args .z) (l .at) (l .inv .0) (l .inv .1 .0) (omega (arith, s .pre .1 .1)))
 
 loop-again : tie.Need-loop-again Inv-loop μ-loop
 loop-again c =
-    let here = c .before .before .before .before in
-    let a = begun here .args in
-    let l = here .before .loop in
-    (omega (arith, here), omega (arith, l .inv, row-is c, layer-count-next (a .layer .nx) (a .layer .ny) (a .masks .now) (a .layer .first) (l .y)))
+    let here = c .before .before .before .before .before in
+    let s = begun here in
+    let a = s .args in
+    let l = here .before .before .before .loop in
+    let sum = l .sum + c .before .count-stretch .result in
+    let next =
+    cubes-next (a .sides) (a .masks .now) (s .pre .1 .0) (a .z) (l .at) (l .inv .0)
+    (λ x y. Within (a .sides) x y × (sum ≡ countedTo (a .sides) (a .masks .now) (a .z) x y))
+    (λ p. ((here .if1 .taken, λ e. refl), p .1 ∙ counted-row (a .sides) (a .masks .now) (a .z) (l .at .y)))
+    ((l .inv .1 .0, λ e. absurd (omega (arith, here .if1 .taken))), added (c .before)) in
+    subst⁻¹ (λ at. Stands (a .sides) (a .z) at × Within (a .sides) (firstX (a .sides) at) (at .y) × (sum ≡ countedTo (a .sides) (a .masks .now) (a .z) (firstX (a .sides) at) (at .y)))
+    (c .next .ensures)
+    (stands-next (a .sides) (a .z) (l .at) (l .inv .0) (l .inv .1 .0), next .0, next .1)
 
 returns : tie.Need-returns Inv-loop μ-loop
 returns c =
-    let layer = c .before .before .before .before .args .layer in
-    let e : c .before .loop .y ≡ layer .ny - 1 = omega arith in
-    rw (← e) (c .before .loop .inv .1)
+    let s = c .before .before .before .before .before .before in
+    let a = s .args in
+    let l = c .before .before .before .loop in
+    let last : l .at .y ≡ a .sides .ny - 1 = omega (arith, l .inv .1 .0, c .if1 .left) in
+    let first = l .inv .1 .1 (omega (arith, last, l .inv .1 .0)) in
+    l .inv .2 ∙ ap₂ (countedTo (a .sides) (a .masks .now) (a .z)) first last ∙ counted-all (a .sides) (a .masks .now) (a .z)
 
 pub count-layer-spec : {M : Type 1} → statement M
 count-layer-spec =
@@ -84,14 +147,15 @@ count-layer-spec =
     (tie.spec
     Inv-loop
     μ-loop
-    sub-last
+    first-requires
     loop-holds
-    add-masks-at
-    masks-at-requires
-    sub-count-row
-    count-row-requires
+    add-if1
+    corners-at-requires
+    cubes-mask-requires
+    busy-requires
+    count-stretch-requires
     add-sum
-    add-y
+    next-requires
     loop-less
     loop-again
     returns)

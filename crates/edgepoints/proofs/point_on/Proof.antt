@@ -8,7 +8,7 @@ use Rattle.grid.proofs.Sides.{samples-most}
 use Rattle.rows.specs.Rows.{sizeOf}
 use Rattle.edgepoints.specs.EdgePoint.{pointBy}
 use Rattle.laws.proofs.Binary.{bit-times}
-use Rattle.rows.proofs.Bounds.{sample-small}
+use Rattle.rows.proofs.Stretches.{sample-small}
 use Rattle.edgepoints.proofs.Marks.{stands}
 use Rattle.edgepoints.proofs.point_on.Statement.{statement}
 use Rattle.edgepoints.proofs.point_on.Tie as tie

@@ -6,11 +6,14 @@ use mathlib.Core.Bool.{false}
 use lib.Dec.{ltb}
 use lib.ListN.{length, replicate, length-replicate}
 use Rattle.laws.specs.Room.{laid}
-use Rattle.grid.specs.Limits.{mostRows, mostPoints}
+use Rattle.grid.specs.Limits.{mostPoints}
+use Rattle.grid.specs.Grid.{isAboveGrey}
 use Rattle.grid.specs.Work.{size}
 use Rattle.grid.proofs.Sides.{rows-most}
 use Rattle.grid.proofs.Named.{mesh-named}
-use Rattle.masks.specs.Masks.{maskAbove}
+use Rattle.masks.specs.Masks.{rowWords, mostWords, maskAbove, Agreeing}
+use Rattle.masks.proofs.Above.{told-agrees}
+use Rattle.rows.proofs.Stretches.{words-most}
 use Rattle.extract.specs.Extraction.{Rooms}
 use Rattle.extract.specs.Promise.{rooms}
 use Rattle.extract.proofs.Ways.{too-many-points, too-many-triangles, all-granted, rooms-hold, triangles-hold}
@@ -56,14 +59,18 @@ room-is c =
 work-kept : (c : tie.After-number) → length (c .number .last .1 .1 .1 .1 .0) ≡ length (lent (begun (masked c)) .work)
 work-kept c = c .number .ensures .1 .whole ∙ sym (begun (masked c) .pre .1 .1)
 
--- each row has its mask
-masks-long : (c : tie.After-fill) → length (c .fill .last .1 .1 .1 .1 .0) ≡ mostRows
+-- each row has its words
+masks-long : (c : tie.After-fill) → length (c .fill .last .1 .1 .1 .1 .0) ≡ mostWords
 masks-long c = c .fill .kept .1 .1 .1 .1 .0
 
-rows-masked : (c : tie.After-fill) → begun c .args .ny * begun c .args .nz ≤ length (c .fill .last .1 .1 .1 .1 .0)
+rows-masked : (c : tie.After-fill) → rowWords (begun c .args .nx) * (begun c .args .ny * begun c .args .nz) ≤ length (c .fill .last .1 .1 .1 .1 .0)
 rows-masked c =
     let s = begun c in
-    omega (arith, masks-long c, rows-most (s .args .nx) (s .args .ny) (s .args .nz) (s .pre .0))
+    omega (arith, masks-long c, words-most (s .args .nx) (s .args .ny) (s .args .nz) (s .pre .0))
+
+-- and neighbouring words agree
+agreeing : (c : tie.After-fill) → Agreeing (begun c .args .nx) (begun c .args .ny * begun c .args .nz) (c .fill .last .1 .1 .1 .1 .0)
+agreeing c = let a = begun c .args in told-agrees (a .nx) (a .ny * a .nz) (isAboveGrey (a .grey) (a .samples .now)) _ (begun c .pre .0 .least-x) (c .fill .ensures)
 
 -- points and triangles within their rooms
 points-fit : (c : tie.After-exceeds2) → ltb (min mostPoints (counted c .before .least2 .result)) (numbered (counted c) .number .result) ≡ false
@@ -80,10 +87,10 @@ slice-aggregate-fill c = search needs
 fill-requires : tie.Need-fill-requires
 fill-requires c κs =
     let s = c .before .before .before .before .before .before .before in (
+      s .pre .0 .least-x,
       omega (arith, s .pre .0 .most-x),
-      rows-most (s .args .nx) (s .args .ny) (s .args .nz) (s .pre .0),
+      words-most (s .args .nx) (s .args .ny) (s .args .nz) (s .pre .0),
       s .pre .1 .0,
-      omega (arith, s .pre .0 .least-x),
     )
 
 slice-aggregate-number : tie.Need-slice-aggregate-number
@@ -92,7 +99,7 @@ slice-aggregate-number c = sym (masks-long (c .before .before))
 number-requires : tie.Need-number-requires
 number-requires c κs =
     let f = c .before .before .before in
-    (begun f .pre .0, (rows-masked f, begun f .pre .1 .1))
+    (begun f .pre .0, (rows-masked f, (agreeing f, begun f .pre .1 .1)))
 
 least-requires : tie.Need-least-requires
 least-requires c κs = search needs
@@ -134,7 +141,7 @@ slice-aggregate-count c = sym (masks-long (masked (numbered (c .before .before))
 count-requires : tie.Need-count-requires
 count-requires c κs =
     let f = masked (numbered (c .before .before)) in
-    (begun f .pre .0, rows-masked f)
+    (begun f .pre .0, (rows-masked f, agreeing f))
 
 exceeds-requires-2 : tie.Need-exceeds-requires-2
 exceeds-requires-2 c κs = search needs
@@ -199,9 +206,12 @@ write-requires c κs =
       (
         rows-masked f,
         (
-          λ some. omega (arith, n .number .ensures .1 .whole),
-          triangles-hold (a .nx) (a .ny) (a .nz) (a .grey) (a .samples .now) (f .fill .last .1 .1 .1 .1 .0) (s .pre .0) (f .fill .ensures)
-              (made .before .count .result) (length (a .triangles .now)) (made .before .count .ensures) (sym (made .exceeds2 .ensures) ∙ else .if2 .left),
+          agreeing f,
+          (
+            λ some. omega (arith, n .number .ensures .1 .whole),
+            triangles-hold (a .nx) (a .ny) (a .nz) (a .grey) (a .samples .now) (f .fill .last .1 .1 .1 .1 .0) (s .pre .0) (f .fill .ensures)
+                (made .before .count .result) (length (a .triangles .now)) (made .before .count .ensures) (sym (made .exceeds2 .ensures) ∙ else .if2 .left),
+          ),
         ),
       ),
     )

@@ -11,10 +11,10 @@ use Rattle.masks.proofs.full_mask.Statement.{statement}
 use Rattle.masks.proofs.full_mask.Tie as tie
 
 abbrev Inv-loop : tie.InvT-loop
-Inv-loop nx full₀ counter₀ full counter = (counter ≤ nx) × (full + 1 ≡ 2 ^ counter)
+Inv-loop n full₀ counter₀ full counter = (counter ≤ n) × (full + 1 ≡ 2 ^ counter)
 
 abbrev μ-loop : tie.MeasureT-loop
-μ-loop nx full₀ counter₀ full counter = nx - counter
+μ-loop n full₀ counter₀ full counter = n - counter
 
 loop-holds : tie.Need-loop-holds Inv-loop μ-loop
 loop-holds c = omega arith
@@ -40,7 +40,7 @@ loop-again c = (omega arith, rw (add-one (c .before .loop .counter)) (omega (ari
 
 returns : tie.Need-returns Inv-loop μ-loop
 returns c =
-    let e : c .before .loop .counter ≡ c .before .before .args .nx = omega arith in
+    let e : c .before .loop .counter ≡ c .before .before .args .n = omega arith in
     λ x. rw (← e) (bit-of-ones (c .before .loop .counter) (c .before .loop .full) x (c .before .loop .inv .1))
 
 pub full-mask-spec : {M : Type 1} → statement M

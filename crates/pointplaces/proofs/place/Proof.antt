@@ -1,13 +1,15 @@
 -- `pointplaces::place` meets its contract. The invariant: the points on the edges before the layer at z are placed. Assumes nothing.
 use mathlib.Core.Path.{_≡_, refl, ap, _∙_}
-use Prim.Native.Nat.{_+_, _-_, _≤_}
+use Prim.Native.Nat.{_*_, _-_, _≤_}
 use native.Mathlib.Omega.{arith}
 use denote.Ref.{now}
+use Rattle.grid.specs.Grid.{isAboveGrey}
 use Rattle.rows.specs.declared.Sides.{Sides}
-use Rattle.rows.specs.Rows.{firstEdge}
+use Rattle.rows.specs.Rows.{layerFirst}
 use Rattle.edgepoints.specs.EdgePoint.{PointRooms, pointRooms, RoomsFor}
 use Rattle.pointplaces.specs.Places.{Given, countAll, Advanced}
-use Rattle.rows.proofs.Bounds.{first-row, past-last}
+use Rattle.masks.proofs.Above.{told-agrees}
+use Rattle.rows.proofs.Stretches.{layer-first}
 use Rattle.pointplaces.proofs.Placing.{SameLengths, room-kept, advanced-none, advanced-on, none-below, all-placed, room-for-all, places-laid, edges-laid, marks-laid}
 use Rattle.pointplaces.proofs.place.Statement.{statement}
 use Rattle.pointplaces.proofs.place.Tie as tie
@@ -15,21 +17,22 @@ use Rattle.pointplaces.proofs.place.Tie as tie
 abbrev Inv-loop : tie.InvT-loop
 Inv-loop nx ny nz grey samples masks points₀ edges₀ marks₀ sides n₀ z₀ points edges marks n z = (z ≤ nz)
     × SameLengths (pointRooms points₀ edges₀ marks₀) (pointRooms points edges marks)
-    × Advanced sides grey samples masks (firstEdge sides 0 0) (firstEdge sides 0 z) n (pointRooms points₀ edges₀ marks₀) (pointRooms points edges marks)
+    × Advanced sides grey samples masks (3 * layerFirst sides 0) (3 * layerFirst sides z) n (pointRooms points₀ edges₀ marks₀) (pointRooms points edges marks)
 
 abbrev μ-loop : tie.MeasureT-loop
 μ-loop nx ny nz grey samples masks points₀ edges₀ marks₀ sides n₀ z₀ points edges marks n z = nz - z
 
-abbrev start : tie.After-full-mask Inv-loop μ-loop → tie.Start Inv-loop μ-loop
-start c = c .before .before .before .before .before .before
+abbrev start : tie.After-last-mask Inv-loop μ-loop → tie.Start Inv-loop μ-loop
+start c = c .before .before .before .before .before .before .before
 
--- the sides with their full mask, as the layers are given them, and the rooms as they come, at the loop's head, and past a layer
-abbrev sides : tie.After-full-mask Inv-loop μ-loop → Sides
+-- the sides with the words of their rows, as the layers are given them
+abbrev sides : tie.After-last-mask Inv-loop μ-loop → Sides
 sides c =
     let a = start c .args in
-    record { nx = a .nx; ny = a .ny; nz = a .nz; full = c .full-mask .result }
+    record { nx = a .nx; ny = a .ny; nz = a .nz; words = c .before .row-words .result; last = c .last-mask .result }
 
-abbrev first-rooms : tie.After-full-mask Inv-loop μ-loop → PointRooms
+-- the rooms as they come, at the loop's head, and past a layer
+abbrev first-rooms : tie.After-last-mask Inv-loop μ-loop → PointRooms
 first-rooms c =
     let a = start c .args in
     pointRooms (now (a .points)) (now (a .edges)) (now (a .marks))
@@ -42,27 +45,38 @@ past-layer c =
     let last = c .place-layer .last .1 .1 .1 .1 .1 .1 in
     pointRooms (last .0) (last .1 .0) (last .1 .1 .0)
 
-given : (c : tie.After-full-mask Inv-loop μ-loop) → Given (sides c) (start c .args .grey) (now (start c .args .samples)) (now (start c .args .masks))
+-- the samples, the words of their rows, and the room, as the layers need them
+given : (c : tie.After-last-mask Inv-loop μ-loop) → Given (sides c) (start c .args .grey) (now (start c .args .samples)) (now (start c .args .masks))
 given c =
+    let a = start c .args in
     let pre = start c .pre in
-    record { ready = record { fit = pre .0; full = c .full-mask .ensures; rows = pre .1 .0 }; whole = pre .1 .1 .0; masked = pre .1 .1 .1 .0 }
+    let masked = pre .1 .1 .1 .0 in
+    let agree = told-agrees (a .nx) (a .ny * a .nz) (isAboveGrey (a .grey) (now (a .samples))) (now (a .masks)) (pre .0 .least-x) masked in
+    record {
+      ready = record { fit = pre .0; words = c .before .row-words .ensures; last = c .last-mask .ensures; rows = pre .1 .0; agree = agree };
+      whole = pre .1 .1 .0;
+      masked = masked;
+    }
 
-room : (c : tie.After-full-mask Inv-loop μ-loop) → RoomsFor (countAll (sides c) (now (start c .args .masks))) (first-rooms c)
+room : (c : tie.After-last-mask Inv-loop μ-loop) → RoomsFor (countAll (sides c) (now (start c .args .masks))) (first-rooms c)
 room c =
     let a = start c .args in
     let pre = start c .pre .1 .1 .1 .1 in
     room-for-all (sides c) (a .grey) (now (a .samples)) (now (a .masks)) (first-rooms c) record { points = pre .0; edges = pre .1 .0; marks = pre .1 .1 }
 
-full-mask-requires : tie.Need-full-mask-requires Inv-loop μ-loop
-full-mask-requires c κs = omega (arith, c .before .before .before .before .before .pre .0 .most-x)
+row-words-requires : tie.Need-row-words-requires Inv-loop μ-loop
+row-words-requires c κs = c .before .before .before .before .before .pre .0 .least-x
+
+last-mask-requires : tie.Need-last-mask-requires Inv-loop μ-loop
+last-mask-requires c κs = c .before .before .before .before .before .before .pre .0 .least-x
 
 loop-holds : tie.Need-loop-holds Inv-loop μ-loop
 loop-holds c =
     let a = start c .args in (
       omega arith,
       record { points = refl; edges = refl; marks = refl },
-      advanced-none (sides c) (a .grey) (now (a .samples)) (now (a .masks)) (firstEdge (sides c) 0 0) 0 (first-rooms c)
-          (rw (first-row (sides c)) (none-below (sides c) (a .grey) (now (a .samples)) (now (a .masks)))),
+      advanced-none (sides c) (a .grey) (now (a .samples)) (now (a .masks)) (3 * layerFirst (sides c) 0) 0 (first-rooms c)
+          (rw (layer-first (sides c)) (none-below (sides c) (a .grey) (now (a .samples)) (now (a .masks)))),
     )
 
 place-layer-requires : tie.Need-place-layer-requires Inv-loop μ-loop
@@ -92,14 +106,7 @@ loop-again c =
     let same = l .loop .inv .1 in (
       omega (arith, t .loop-test .taken),
       record { points = kept .0 ∙ same .points; edges = kept .1 .0 ∙ same .edges; marks = kept .1 .1 .0 ∙ same .marks },
-      advanced-on (sides f) (a .grey) (now (a .samples)) (now (a .masks)) (firstEdge (sides f) 0 0) (firstEdge (sides f) 0 (l .loop .z)) (firstEdge (sides f) 0 (l .loop .z + 1))
-          (l .loop .n)
-          (done .place-layer .result)
-          (first-rooms f)
-          (loop-rooms l)
-          (past-layer done)
-          (l .loop .inv .2)
-          (done .place-layer .ensures),
+      advanced-on {t = past-layer done} (l .loop .inv .2) (done .place-layer .ensures),
     )
 
 same-length : tie.Need-same-length Inv-loop μ-loop
@@ -123,9 +130,9 @@ returns c =
     let after = loop-rooms l in
     let last : l .loop .z ≡ s .nz = omega (arith, l .loop .inv .0) in
     let held =
-    all-placed s (a .grey) samples masks (firstEdge s 0 0) (firstEdge s 0 (l .loop .z)) (l .loop .n) (first-rooms f) after
-    (first-row s)
-    (ap (firstEdge s 0) last ∙ past-last s)
+    all-placed s (a .grey) samples masks (3 * layerFirst s 0) (3 * layerFirst s (l .loop .z)) (l .loop .n) (first-rooms f) after
+    (ap (λ n. 3 * n) (layer-first s))
+    (ap (λ z. 3 * layerFirst s z) last)
     (l .loop .inv .2) in (
       places-laid s (a .grey) samples masks (first-rooms f) after held (pre .0),
       (edges-laid s (a .grey) samples masks (first-rooms f) after held (pre .1 .0), marks-laid s (a .grey) samples masks (first-rooms f) after held (pre .1 .1)),
@@ -137,7 +144,8 @@ place-spec =
     (tie.spec
     Inv-loop
     μ-loop
-    full-mask-requires
+    row-words-requires
+    last-mask-requires
     loop-holds
     place-layer-requires
     add-z

@@ -1,123 +1,154 @@
--- `triangles::write_layer` meets its contract. The loop's invariant: `here` is the next row's first grid edge, and the rows passed are written. Assumes nothing.
-use mathlib.Core.Path.{_≡_, ap₂, subst⁻¹}
-use mathlib.Core.List.{List}
-use Prim.Native.Nat.{ℕ, _+_, _*_, _-_, _≤_}
-use native.Mathlib.Nat.{mul-add}
+-- `triangles::write_layer` meets its contract. The loop's invariant: the cubes before a stretch are written. Assumes nothing.
+use mathlib.Core.Path.{_≡_, ap, ap₂, subst, subst⁻¹, _∙_}
+use Prim.Native.Nat.{_*_, _-_}
 use native.Mathlib.Omega.{arith}
-use lib.ListN.{getD}
-use Rattle.grid.specs.Work.{Nameable}
-use Rattle.cuberows.specs.Row.{masksAt}
-use Rattle.cuberows.proofs.Steps.{above-row}
-use Rattle.triangles.specs.Names.{rowNames, layerNames}
-use Rattle.triangles.specs.Walk.{RowRoom, Written}
-use Rattle.triangles.proofs.Names.{written-none, written-more, written-room, written-length}
+use borrow.Author.Needs.{needs}
+use Rattle.grid.proofs.Sides.{samples-most}
+use Rattle.masks.specs.Masks.{rowWords}
+use Rattle.rows.specs.Rows.{Stands, firstX, cubesMask, firstStretch}
+use Rattle.rows.proofs.Stretches.{stands-first, sample-there, word-there, stretch-small}
+use Rattle.cuberows.specs.Cubes.{cornersAt, BusyCubes}
+use Rattle.cuberows.proofs.Layers.{Within, corners-there}
+use Rattle.triangles.specs.Walk.{Written}
+use Rattle.triangles.proofs.Names.{written-none, written-length}
+use Rattle.triangles.proofs.Layers.{namedTo, named-none, named-all, stretch-room, stretch-next}
 use Rattle.triangles.proofs.write_layer.Statement.{statement}
 use Rattle.triangles.proofs.write_layer.Tie as tie
 
 abbrev Inv-loop : tie.InvT-loop
-Inv-loop rows counts offsets masks names triangles₀ layer edge at last step here₀ to₀ y₀ triangles here to y =
-    (y ≤ layer .ny - 1)
-    × (here ≡ edge + 3 * layer .nx * y)
-    × Written triangles₀ triangles at (layerNames offsets names (layer .nx) (layer .ny) y masks (layer .first) edge) to
+Inv-loop rows counts offsets masks names triangles₀ sides z from at₀ to₀ triangles at to =
+    Stands sides z at × Within sides (firstX sides at) (at .y) × Written triangles₀ triangles from (namedTo offsets names sides masks z (firstX sides at) (at .y)) to
 
 abbrev μ-loop : tie.MeasureT-loop
-μ-loop rows counts offsets masks names triangles₀ layer edge at last step here₀ to₀ y₀ triangles here to y = layer .ny - 1 - y
+μ-loop rows counts offsets masks names triangles₀ sides z from at₀ to₀ triangles at to = rowWords (sides .nx) * (sides .ny * sides .nz) - at .word
 
-sub-last : tie.Need-sub-last Inv-loop μ-loop
-sub-last c = omega (arith, c .before .before .before .before .pre .1 .1 .0)
-
-mul-step : tie.Need-mul-step Inv-loop μ-loop
-mul-step c = omega (arith, c .before .before .before .before .before .pre .1 .1 .0)
+first-requires : tie.Need-first-requires Inv-loop μ-loop
+first-requires c κs =
+    let pre = c .before .before .before .pre .1 .1 in
+    (pre .0 .fit, (pre .0 .words, omega (arith, pre .1 .0)))
 
 loop-holds : tie.Need-loop-holds Inv-loop μ-loop
-loop-holds c = (omega arith, omega arith, written-none _ _ _)
+loop-holds c =
+    let s = c .before .before .before .before in
+    let a = s .args in
+    let ready = s .pre .1 .1 .0 in
+    let none : firstX (a .sides) (firstStretch (a .sides) (a .z)) ≡ 0 = omega arith in
+    subst⁻¹
+    (λ at. Stands (a .sides) (a .z) at × Within (a .sides) (firstX (a .sides) at) (at .y)
+    × Written (a .triangles .now) (a .triangles .now) (a .from) (namedTo (a .offsets .now) (a .names .now) (a .sides) (a .masks .now) (a .z) (firstX (a .sides) at) (at .y)) (a .from))
+    (c .first .ensures) (
+      stands-first (a .sides) (ready .fit) (ready .words) (a .z),
+      (omega (arith, ready .fit .least-y), λ e. none),
+      rw (none, named-none (a .offsets .now) (a .names .now) (a .sides) (a .masks .now) (a .z)) (written-none (a .triangles .now) (a .from)),
+    )
+
+add-if1 : tie.Need-add-if1 Inv-loop μ-loop
+add-if1 c = omega (arith, c .before .loop .inv .1 .0, c .before .before .before .before .before .before .pre .1 .1 .0 .fit .most-y)
 
 -- from a turn back to the function's entry
-abbrev begun : tie.In-loop Inv-loop μ-loop → tie.Start Inv-loop μ-loop
-begun c = c .before .before .before .before .before .before .before
+abbrev begun : tie.Then1 Inv-loop μ-loop → tie.Start Inv-loop μ-loop
+begun c = c .before .before .before .before .before .before .before .before
 
--- what is written for each row of the layer
-abbrev rowOf : tie.Start Inv-loop μ-loop → ℕ → List ℕ
-rowOf s y =
-    let a = s .args in
-    rowNames (a .offsets .now) (a .names .now) (a .layer .nx - 1) (masksAt (a .masks .now) (a .layer .ny) (a .layer .first + y)) (a .edge + 3 * a .layer .nx * y)
+corners-at-requires : tie.Need-corners-at-requires Inv-loop μ-loop
+corners-at-requires c κs =
+    let s = begun c in
+    let l = c .before .before .before .loop in
+    corners-there (s .args .sides) (s .args .masks .now) (s .pre .1 .1 .0) (s .args .z) (l .at) (l .inv .0) (c .if1 .taken) (s .pre .1 .1 .1 .0)
 
-add-masks-at : tie.Need-add-masks-at Inv-loop μ-loop
-add-masks-at c = omega (arith, begun (c .before) .pre .1 .1 .0)
+cubes-mask-requires : tie.Need-cubes-mask-requires Inv-loop μ-loop
+cubes-mask-requires c κs = search needs
 
-masks-at-requires : tie.Need-masks-at-requires Inv-loop μ-loop
-masks-at-requires c κs = omega (arith, begun (c .before) .pre .1 .1 .0)
+busy-requires : tie.Need-busy-requires Inv-loop μ-loop
+busy-requires c κs = search needs
 
-sub-write-row : tie.Need-sub-write-row Inv-loop μ-loop
-sub-write-row c = omega (arith, begun (c .before .before .before .before) .pre .1 .1 .0)
-
--- the call's first grid edge and its row are the layer's
-place-is : (c : tie.In-loop Inv-loop μ-loop) → c .before .loop .here ≡ begun c .args .edge + 3 * begun c .args .layer .nx * c .before .loop .y
-place-is c = c .before .loop .inv .1
-
-row-is : (c : tie.After-masks-at Inv-loop μ-loop)
-    → let here = c .before .before in
+mul-edge : tie.Need-mul-edge Inv-loop μ-loop
+mul-edge c =
+    let here = c .before .before .before .before in
     let s = begun here in
-    rowNames (s .args .offsets .now) (s .args .names .now) (s .args .layer .nx - 1) (c .masks-at .result) (here .before .loop .here) ≡ rowOf s (here .before .loop .y)
-row-is c = ap₂ (rowNames _ _ _) (c .masks-at .ensures) (place-is (c .before .before))
+    let a = s .args .sides in
+    let l = here .before .before .before .loop in
+    let fit = s .pre .1 .1 .0 .fit in
+    omega (
+      arith,
+      sample-there a (s .args .z) (l .at) (l .inv .0) (l .inv .1 .0) (omega (arith, s .pre .1 .1 .1 .0)) 0 (omega (arith, l .inv .0 .some)),
+      samples-most (a .nx) (a .ny) (a .nz) fit,
+    )
 
-room-here : (c : tie.After-masks-at Inv-loop μ-loop)
-    → let here = c .before .before in
+-- the busy cubes of the grid's words
+busy-is : (c : tie.After-busy Inv-loop μ-loop)
+    → let here = c .before .before .before in
     let a = begun here .args in
-    let l = here .before .loop in
-    RowRoom (a .offsets .now) (a .names .now) (l .triangles) (a .layer .nx - 1) (c .masks-at .result) (l .here) (l .to)
-room-here c =
-    let here = c .before .before in
+    let at = here .before .before .before .loop .at in
+    BusyCubes (cornersAt (a .masks .now) (a .sides .words) (a .sides .ny) (at .word)) (cubesMask (a .sides) (at .left)) (c .busy .result)
+busy-is c = rw (← (c .before .before .corners-at .ensures), ← (c .before .cubes-mask .ensures)) (c .busy .ensures)
+
+write-stretch-requires : tie.Need-write-stretch-requires Inv-loop μ-loop
+write-stretch-requires c κs =
+    let busy = c .before .before in
+    let here = c .before .before .before .before .before in
     let s = begun here in
     let a = s .args in
-    let l = here .before .loop in
-    let room = s .pre .1 .1 .1 in
-    record {
-      named = λ x e h k.
-          subst⁻¹ (λ p. Nameable (a .names .now) (p + 3 * x + getD (a .offsets .now) e 0)) (place-is here) (room .named x (l .y) e (omega arith) (omega (arith, here)) k);
-      holds = rw (row-is c) (written-room (rowOf s) (l .y) (l .inv .2) (s .args .layer .ny - 1) (omega (arith, here)) (room .holds));
-    }
+    let l = here .before .before .before .loop in
+    let pre = s .pre .1 .1 in (
+      s .pre .0,
+      (
+        s .pre .1 .0,
+        stretch-room (a .offsets .now) (a .names .now) (a .sides) (a .masks .now) (a .z) (pre .0) (l .at) (l .inv .0) (here .if1 .taken) (pre .1 .0)
+            (busy .busy .result)
+            (busy-is busy)
+            (l .inv .2)
+            (c .before .before .before .before .corners-at .result)
+            (c .before .before .before .before .corners-at .ensures)
+            (pre .1 .1),
+      ),
+    )
 
-write-row-requires : tie.Need-write-row-requires Inv-loop μ-loop
-write-row-requires c κs =
-    let pre = begun (c .before .before .before .before) .pre in
-    (pre .0, (pre .1 .0, (omega (arith, pre .1 .1 .0), (above-row _ _ (pre .1 .1 .0), room-here (c .before .before)))))
-
--- from a turn's end back to its start
-abbrev turned : tie.After-slice-known2 Inv-loop μ-loop → tie.In-loop Inv-loop μ-loop
-turned c = c .before .before .before .before .before .before .before
-
-add-here : tie.Need-add-here Inv-loop μ-loop
-add-here c =
-    let here = turned c in
-    let pre = begun here .pre in
-    let fits = pre .1 .1 .0 in
-    let l = here .before .loop in
-    omega (arith, pre .1 .1 .1 .named 0 (l .y) 0 (omega (arith, fits)) (omega (arith, here)) (omega arith) .fits, place-is here, fits)
-
-add-y : tie.Need-add-y Inv-loop μ-loop
-add-y c = omega (arith, begun (turned c) .pre .1 .1 .0)
+next-requires : tie.Need-next-requires Inv-loop μ-loop
+next-requires c κs =
+    let here = c .before .before .before .before .before .before .before .before in
+    let s = begun here in
+    let l = here .before .before .before .loop in
+    stretch-small (s .args .sides) (s .args .z) (l .at) (l .inv .0) (l .inv .1 .0) (omega (arith, s .pre .1 .1 .1 .0)) (s .pre .1 .1 .0 .fit)
 
 loop-less : tie.Need-loop-less Inv-loop μ-loop
-loop-less c = omega (arith, turned c)
+loop-less c =
+    let here = c .before .before .before .before .before .before .before .before .before in
+    let s = begun here in
+    let l = here .before .before .before .loop in
+    omega (arith, ap (λ at. at .word) (c .next .ensures), word-there (s .args .sides) (s .args .z) (l .at) (l .inv .0) (l .inv .1 .0) (omega (arith, s .pre .1 .1 .1 .0)))
 
 loop-again : tie.Need-loop-again Inv-loop μ-loop
 loop-again c =
-    let here = turned c in
+    let busy = c .before .before .before .before .before .before in
+    let here = c .before .before .before .before .before .before .before .before .before in
     let s = begun here in
-    let l = here .before .loop in (
-      omega (arith, here),
-      omega (arith, place-is here, mul-add (3 * s .args .layer .nx) (l .y) 1),
-      written-more (rowOf s) (l .y) (l .inv .2) (rw (row-is (c .before .before .before .before .before)) at (c .before .before .write-row .ensures)),
-    )
+    let a = s .args in
+    let l = here .before .before .before .loop in
+    let pre = s .pre .1 .1 in
+    stretch-next (a .offsets .now) (a .names .now) (a .sides) (a .masks .now) (a .z) (pre .0) (l .at) (l .inv .0) (here .if1 .taken) (pre .1 .0)
+    (busy .busy .result)
+    (busy-is busy)
+    (l .inv .2)
+    (c .before .before .before .before .before .before .before .before .corners-at .result)
+    (c .before .before .before .before .before .before .before .before .corners-at .ensures)
+    (c .next .result)
+    (c .next .ensures)
+    (c .before .before .before .write-stretch .ensures)
 
 same-length : tie.Need-same-length Inv-loop μ-loop
-same-length c = written-length (c .before .loop .inv .2)
+same-length c = written-length (c .before .before .before .loop .inv .2)
 
 returns : tie.Need-returns Inv-loop μ-loop
 returns c =
-    let e : c .before .loop .y ≡ c .before .before .before .before .before .before .before .args .layer .ny - 1 = omega arith in
-    rw (← e) (c .before .loop .inv .2)
+    let s = c .before .before .before .before .before .before .before .before in
+    let a = s .args in
+    let l = c .before .before .before .loop in
+    let last : l .at .y ≡ a .sides .ny - 1 = omega (arith, l .inv .1 .0, c .if1 .left) in
+    let first = l .inv .1 .1 (omega (arith, last, l .inv .1 .0)) in
+    let named = namedTo (a .offsets .now) (a .names .now) (a .sides) (a .masks .now) (a .z) in
+    subst (λ list. Written (a .triangles .now) (l .triangles) (a .from) list (l .to))
+    (ap₂ named first last ∙ named-all (a .offsets .now) (a .names .now) (a .sides) (a .masks .now) (a .z))
+    (l .inv .2)
 
 pub write-layer-spec : {M : Type 1} → statement M
 write-layer-spec =
@@ -125,15 +156,15 @@ write-layer-spec =
     (tie.spec
     Inv-loop
     μ-loop
-    sub-last
-    mul-step
+    first-requires
     loop-holds
-    add-masks-at
-    masks-at-requires
-    sub-write-row
-    write-row-requires
-    add-here
-    add-y
+    add-if1
+    corners-at-requires
+    cubes-mask-requires
+    busy-requires
+    mul-edge
+    write-stretch-requires
+    next-requires
     loop-less
     loop-again
     same-length

@@ -1,51 +1,67 @@
--- `pointnumbers::numbers::number_layer` meets its contract. The invariant: the edges before the row at y are numbered. Assumes nothing.
-use mathlib.Core.Path.{_≡_, sym, subst, _∙_}
-use Prim.Native.Nat.{_-_, _≤_}
+-- `pointnumbers::numbers::number_layer` meets its contract. The invariant: the stretch stands in the layer, and the edges before it are numbered. Assumes nothing.
+use mathlib.Core.Path.{sym, subst, _∙_}
+use Prim.Native.Nat.{ℕ, _+_, _*_, _-_, _≤_}
 use native.Mathlib.Omega.{arith}
-use denote.Ref.{now}
-use Rattle.rows.specs.Rows.{firstEdge}
+use Rattle.masks.specs.Masks.{rowWords}
+use Rattle.rows.specs.Rows.{Stands, layerFirst}
+use Rattle.rows.proofs.Stretches.{stands-first, stands-next, layer-end, word-there, stretch-small}
 use Rattle.pointnumbers.specs.Numbers.{NumberedTo}
-use Rattle.rows.proofs.Bounds.{next-layer}
 use Rattle.pointnumbers.proofs.numbers.number_layer.Statement.{statement}
 use Rattle.pointnumbers.proofs.numbers.number_layer.Tie as tie
 
 abbrev Inv-loop : tie.InvT-loop
-Inv-loop sides z from masks work₀ n₀ y₀ work n y = (y ≤ sides .ny) × NumberedTo sides masks (firstEdge sides y z) n work
+Inv-loop sides z from masks work₀ n₀ at₀ work n at = Stands sides z at × NumberedTo sides masks (3 * at .s) n work
 
 abbrev μ-loop : tie.MeasureT-loop
-μ-loop sides z from masks work₀ n₀ y₀ work n y = sides .ny - y
+μ-loop sides z from masks work₀ n₀ at₀ work n at = rowWords (sides .nx) * (sides .ny * sides .nz) - at .word
+
+abbrev start : tie.At-loop Inv-loop μ-loop → tie.Start Inv-loop μ-loop
+start l = l .before .before .before .before
+
+first-requires : tie.Need-first-requires Inv-loop μ-loop
+first-requires c κs = let s = c .before .before in (s .pre .0 .fit, (s .pre .0 .words, s .pre .1 .0))
 
 loop-holds : tie.Need-loop-holds Inv-loop μ-loop
-loop-holds c = (omega arith, c .before .before .pre .1 .1)
+loop-holds c =
+    let s = c .before .before .before in
+    rw (c .first .ensures) (stands-first (s .args .sides) (s .pre .0 .fit) (s .pre .0 .words) (s .args .z), s .pre .1 .1)
 
-number-row-requires : tie.Need-number-row-requires Inv-loop μ-loop
-number-row-requires c κs =
-    let l = c .before .before .before in
-    let s = l .before .before .before in
-    (s .pre .0, (omega arith, (s .pre .1 .0, l .loop .inv .1)))
+number-stretch-requires : tie.Need-number-stretch-requires Inv-loop μ-loop
+number-stretch-requires c κs =
+    let l = c .before .before .before .before in
+    let s = start l in
+    (s .pre .0, (l .loop .inv .0, (omega arith, (s .pre .1 .0, l .loop .inv .1))))
 
-add-y : tie.Need-add-y Inv-loop μ-loop
-add-y c = omega (arith, c .before .before .before .before .before .before .before .before .before .pre .0 .fit .most-y)
+next-requires : tie.Need-next-requires Inv-loop μ-loop
+next-requires c κs =
+    let l = c .before .before .before .before .before .before .before in
+    let s = start l in
+    stretch-small (s .args .sides) (s .args .z) (l .loop .at) (l .loop .inv .0) (omega arith) (s .pre .1 .0) (s .pre .0 .fit)
 
 loop-less : tie.Need-loop-less Inv-loop μ-loop
-loop-less c = omega arith
+loop-less c =
+    let l = c .before .before .before .before .before .before .before .before in
+    let s = start l in
+    rw (c .next .ensures) (omega (arith, word-there (s .args .sides) (s .args .z) (l .loop .at) (l .loop .inv .0) (omega arith) (s .pre .1 .0)))
 
 loop-again : tie.Need-loop-again Inv-loop μ-loop
-loop-again c = (omega arith, c .before .before .number-row .ensures)
+loop-again c =
+    let l = c .before .before .before .before .before .before .before .before in
+    let s = start l in
+    rw (c .next .ensures) (stands-next (s .args .sides) (s .args .z) (l .loop .at) (l .loop .inv .0) (omega arith), c .before .before .before .number-stretch .ensures)
 
 same-length : tie.Need-same-length Inv-loop μ-loop
 same-length c =
-    let l = c .before .before in
-    l .loop .inv .1 .whole ∙ sym (l .before .before .before .pre .1 .1 .whole)
+    let l = c .before .before .before in
+    l .loop .inv .1 .whole ∙ sym (start l .pre .1 .1 .whole)
 
 returns : tie.Need-returns Inv-loop μ-loop
 returns c =
-    let l = c .before .before in
-    let a = l .before .before .before .args in
-    let last : l .loop .y ≡ a .sides .ny = omega (arith, l .loop .inv .0) in
-    rw (next-layer (a .sides) (a .z)) (subst (λ y. NumberedTo (a .sides) (now (a .masks)) (firstEdge (a .sides) y (a .z)) (l .loop .n) (l .loop .work)) last (l .loop .inv .1))
+    let l = c .before .before .before in
+    let a = start l .args in
+    subst (λ s. NumberedTo (a .sides) (a .masks .now) (3 * s) (l .loop .n) (l .loop .work)) (layer-end (a .sides) (a .z) (l .loop .at) (l .loop .inv .0) (omega arith)) (l .loop .inv .1)
 
 pub number-layer-spec : {M : Type 1} → statement M
 number-layer-spec =
     tie.close
-    (tie.spec Inv-loop μ-loop loop-holds number-row-requires add-y loop-less loop-again same-length returns)
+    (tie.spec Inv-loop μ-loop first-requires loop-holds number-stretch-requires next-requires loop-less loop-again same-length returns)

@@ -1,12 +1,12 @@
--- `masks::row_mask` meets its contract. Assumes nothing.
+-- `masks::word_mask` meets its contract. Assumes nothing.
 use Prim.Native.Nat.{_/_}
 use native.Mathlib.Omega.{arith}
 use borrow.Author.Needs.{needs}
 use borrow.Author.Tests.{le-leb, lt-leb}
 use Rattle.laws.specs.Bits.{wordBits}
 use Rattle.masks.proofs.Gather.{mask-join}
-use Rattle.masks.proofs.row_mask.Statement.{statement}
-use Rattle.masks.proofs.row_mask.Tie as tie
+use Rattle.masks.proofs.word_mask.Statement.{statement}
+use Rattle.masks.proofs.word_mask.Tie as tie
 
 half-mask-requires : tie.Need-half-mask-requires
 half-mask-requires c κs = search needs
@@ -37,8 +37,8 @@ returns-2 c =
       mask-join (a .flags .now) (a .at) (wordBits / 2) (wordBits / 2),
     ))
 
-pub row-mask-spec : {M : Type 1} → statement M
-row-mask-spec =
+pub word-mask-spec : {M : Type 1} → statement M
+word-mask-spec =
     tie.close
     (tie.spec
     half-mask-requires

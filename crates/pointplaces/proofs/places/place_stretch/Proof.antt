@@ -1,0 +1,238 @@
+-- `pointplaces::places::place_stretch` meets its contract. The invariant: so many of the stretch's own samples are passed, the points on their edges are placed,
+-- and the busy word has the bits of those left. It falls in each turn. Assumes nothing.
+use mathlib.Core.Path.{_≡_, refl, _∙_}
+use Prim.Native.Nat.{ℕ, _+_, _*_, _^_, _<_, _≤_}
+use native.Mathlib.Omega.{arith}
+use lib.Bits.{or-lt}
+use lib.Count.{trailingZeros}
+use denote.Ref.{now}
+use Rattle.laws.specs.Bits.{wordBits}
+use Rattle.laws.proofs.Scan.{Left, left-all}
+use Rattle.rows.specs.declared.Cuts.{Cuts}
+use Rattle.rows.specs.Rows.{firstX, ownSamples}
+use Rattle.edgepoints.specs.EdgePoint.{PointRooms, pointRooms}
+use Rattle.pointplaces.specs.Places.{countAll, Advanced}
+use Rattle.rows.proofs.Stretches.{first-x, own-most, sample-is, stretch-small}
+use Rattle.rows.proofs.Busy.{busyOf, tested, Found, found, rest-uncut}
+use Rattle.pointplaces.proofs.Placing.{SameLengths, BitsTested, room-kept, samples-passed, advanced-none, advanced-on, sample-passed}
+use Rattle.pointplaces.proofs.Ends.{sample-placeable}
+use Rattle.pointplaces.proofs.places.place_stretch.Statement.{statement}
+use Rattle.pointplaces.proofs.places.place_stretch.Tie as tie
+
+abbrev Inv-loop : tie.InvT-loop
+Inv-loop sides grey at z from samples masks points₀ edges₀ marks₀ cuts before busy₀ n₀ points edges marks busy n = (x : ℕ)
+    × (x ≤ ownSamples (at .left))
+    × (busy < 2 ^ 64)
+    × Left (busyOf cuts) x busy
+    × SameLengths (pointRooms points₀ edges₀ marks₀) (pointRooms points edges marks)
+    × Advanced sides grey samples masks (3 * at .s) (3 * (at .s + x)) n (pointRooms points₀ edges₀ marks₀) (pointRooms points edges marks)
+
+abbrev μ-loop : tie.MeasureT-loop
+μ-loop sides grey at z from samples masks points₀ edges₀ marks₀ cuts before busy₀ n₀ points edges marks busy n = busy
+
+-- the start, from the call of `cuts_at`, and this call, from the loop's head
+abbrev start : tie.After-cuts-at Inv-loop μ-loop → tie.Start Inv-loop μ-loop
+start c = c .before .before .before .before .before .before
+
+abbrev cuts-of : tie.At-loop Inv-loop μ-loop → tie.After-cuts-at Inv-loop μ-loop
+cuts-of l = l .before .before .before .before .before
+
+-- the rooms as they come, at the loop's head, and past a sample
+abbrev first-rooms : tie.Start Inv-loop μ-loop → PointRooms
+first-rooms s = pointRooms (now (s .args .points)) (now (s .args .edges)) (now (s .args .marks))
+
+abbrev loop-rooms : tie.At-loop Inv-loop μ-loop → PointRooms
+loop-rooms l = pointRooms (l .loop .points) (l .loop .edges) (l .loop .marks)
+
+abbrev past-sample : tie.After-place-sample Inv-loop μ-loop → PointRooms
+past-sample c =
+    let last = c .place-sample .last .1 .1 .1 .1 .1 .1 .1 in
+    pointRooms (last .0) (last .1 .0) (last .1 .1 .0)
+
+cuts-at-requires : tie.Need-cuts-at-requires Inv-loop μ-loop
+cuts-at-requires c κs =
+    let pre = c .before .before .before .before .before .pre in
+    (pre .0 .ready, (pre .1 .0, (pre .1 .1 .0, pre .1 .1 .1 .0)))
+
+sub-before : tie.Need-sub-before Inv-loop μ-loop
+sub-before c = omega (arith, start (c .before .before) .pre .1 .0 .along)
+
+-- the busy samples' bits are a word
+busy-small : (cuts : Cuts) → cuts .x < 2 ^ 64 → cuts .y < 2 ^ 64 → cuts .z < 2 ^ 64 → busyOf cuts < 2 ^ 64
+busy-small cuts x y z = or-lt 64 _ _ (or-lt 64 _ _ x y) z
+
+loop-holds : tie.Need-loop-holds Inv-loop μ-loop
+loop-holds c =
+    let q = c .before .before .before .before in
+    let s = start q in
+    let a = s .args in
+    let words = c .struct-known4 .given in
+    let none : 3 * (a .at .s + 0) ≡ 3 * a .at .s = omega arith in (
+      0,
+      omega arith,
+      busy-small (q .cuts-at .result) (omega (arith, words)) (omega (arith, words)) (omega (arith, words)),
+      left-all (busyOf (q .cuts-at .result)),
+      record { points = refl; edges = refl; marks = refl },
+      rw none (advanced-none (a .sides) (a .grey) (now (a .samples)) (now (a .masks)) (3 * a .at .s) (a .from) (first-rooms s) (s .pre .1 .1 .1 .1 .1)),
+    )
+
+-- the next busy sample; the points on the edges before its own are placed
+abbrev found-at : tie.At-loop Inv-loop μ-loop → ℕ
+found-at l = trailingZeros wordBits (l .loop .busy)
+
+next-busy : (c : tie.In-loop Inv-loop μ-loop)
+    → let l = c .before in
+    let q = cuts-of l in
+    let a = start q .args in
+    Found (a .sides) (now (a .masks)) (a .at .s) (ownSamples (a .at .left)) (busyOf (q .cuts-at .result)) (l .loop .inv .0) (l .loop .busy) (found-at l)
+next-busy c =
+    let l = c .before in
+    let q = cuts-of l in
+    let a = start q .args in
+    found (a .sides) (now (a .masks)) (a .at .s) (ownSamples (a .at .left)) (q .cuts-at .result) (q .cuts-at .ensures)
+    (l .loop .inv .0)
+    (l .loop .busy)
+    (l .loop .inv .3)
+    (l .loop .inv .2)
+    (c .loop-test .taken)
+
+placed-there : (c : tie.In-loop Inv-loop μ-loop)
+    → let l = c .before in
+    let s = start (cuts-of l) in
+    let a = s .args in
+    Advanced (a .sides) (a .grey) (now (a .samples)) (now (a .masks)) (3 * a .at .s) (3 * (a .at .s + found-at l)) (l .loop .n) (first-rooms s) (loop-rooms l)
+placed-there c =
+    let l = c .before in
+    let s = start (cuts-of l) in
+    let a = s .args in
+    samples-passed (a .sides) (a .grey) (now (a .samples)) (now (a .masks)) (3 * a .at .s) (a .at .s) (l .loop .inv .0) (found-at l) (l .loop .n) (first-rooms s) (loop-rooms l)
+    (next-busy c .from)
+    (l .loop .inv .5)
+    (next-busy c .uncut)
+
+-- its edges are crossed as the bits say
+bits-tested : (c : tie.In-loop Inv-loop μ-loop)
+    → let l = c .before in
+    let q = cuts-of l in
+    let a = start q .args in
+    BitsTested (a .sides) (now (a .masks)) (a .at .s + found-at l) (q .cuts-at .result) (found-at l)
+bits-tested c =
+    let q = cuts-of (c .before) in
+    let a = start q .args in
+    tested (a .sides) (now (a .masks)) (a .at .s) (ownSamples (a .at .left)) (q .cuts-at .result) (q .cuts-at .ensures) (found-at (c .before)) (next-busy c .there)
+
+cast-along : tie.Need-cast-along Inv-loop μ-loop
+cast-along c = omega (arith, next-busy c .small)
+
+add-t20 : tie.Need-add-t20 Inv-loop μ-loop
+add-t20 c =
+    let t = c .before in
+    let s = start (cuts-of (t .before)) in
+    omega (arith, next-busy t .small, stretch-small (s .args .sides) (s .args .z) (s .args .at) (s .pre .1 .0) (s .pre .1 .1 .0) (s .pre .1 .1 .1 .0) (s .pre .0 .ready .fit) .s)
+
+add-t21 : tie.Need-add-t21 Inv-loop μ-loop
+add-t21 c =
+    let t = c .before in
+    omega (arith, next-busy t .small, start (cuts-of (t .before)) .pre .0 .ready .fit .most-x)
+
+place-sample-requires : tie.Need-place-sample-requires Inv-loop μ-loop
+place-sample-requires c κs =
+    let t = c .before .before .before .before in
+    let l = t .before in
+    let q = cuts-of l in
+    let s = start q in
+    let a = s .args in
+    let stands = s .pre .1 .0 in
+    let x = firstX (a .sides) (a .at) + found-at l in
+    let inside : x < a .sides .nx = omega (arith, next-busy t .there, own-most (a .sides) (a .z) (a .at) stands, stands .along) in
+    let site : a .at .s + found-at l ≡ x + a .sides .nx * (a .at .y + a .sides .ny * a .z)
+    = omega (arith, first-x (a .sides) (a .z) (a .at) stands, sample-is (a .sides) (a .z) (a .at) stands (found-at l)) in
+    let fits = room-kept (countAll (a .sides) (now (a .masks))) (first-rooms s) (loop-rooms l) (l .loop .inv .4) (s .pre .1 .1 .1 .1 .0) in (
+      next-busy t .small,
+      (
+        record { fit = s .pre .0 .ready .fit; below-x = inside; below-y = s .pre .1 .1 .0; below-z = s .pre .1 .1 .1 .0; site = site },
+        sample-placeable (a .sides) (a .grey) (now (a .samples)) (now (a .masks)) (s .pre .0) x (a .at .y) (a .z) inside (s .pre .1 .1 .0) (s .pre .1 .1 .1 .0)
+            (a .at .s + found-at l)
+            (l .loop .n)
+            (q .cuts-at .result)
+            (found-at l)
+            (loop-rooms l)
+            site
+            (placed-there t .counted)
+            (bits-tested t)
+            fits,
+      ),
+    )
+
+sub-busy : tie.Need-sub-busy Inv-loop μ-loop
+sub-busy c = omega (arith, c .before .before .before .before .before .before .before .before .before .before .before .loop-test .taken)
+
+loop-less : tie.Need-loop-less Inv-loop μ-loop
+loop-less c = next-busy (c .before .before .before .before .before .before .before .before .before .before .before) .falls
+
+loop-again : tie.Need-loop-again Inv-loop μ-loop
+loop-again c =
+    let done = c .before .before .before .before .before .before in
+    let kept = done .place-sample .kept .1 .1 .1 .1 .1 .1 .1 in
+    let t = done .before .before .before .before .before in
+    let l = t .before in
+    let q = cuts-of l in
+    let a = start q .args in
+    let same = l .loop .inv .4 in
+    let past : 3 * (a .at .s + (found-at l + 1)) ≡ 3 * (a .at .s + found-at l + 1) = omega arith in
+    let here =
+    sample-passed (a .sides) (a .grey) (now (a .samples)) (now (a .masks)) (a .at .s + found-at l) (l .loop .n) (done .place-sample .result) (q .cuts-at .result) (found-at l)
+    (loop-rooms l)
+    (past-sample done)
+    (placed-there t .counted)
+    (bits-tested t)
+    (done .place-sample .ensures) in (
+      found-at l + 1,
+      omega (arith, next-busy t .there),
+      omega (arith, next-busy t .falls, l .loop .inv .2),
+      next-busy t .left,
+      record { points = kept .0 ∙ same .points; edges = kept .1 .0 ∙ same .edges; marks = kept .1 .1 .0 ∙ same .marks },
+      rw past (advanced-on (placed-there t) here),
+    )
+
+same-length : tie.Need-same-length Inv-loop μ-loop
+same-length c = c .before .loop .inv .4 .points
+
+same-length-2 : tie.Need-same-length-2 Inv-loop μ-loop
+same-length-2 c = c .before .loop .inv .4 .edges
+
+same-length-3 : tie.Need-same-length-3 Inv-loop μ-loop
+same-length-3 c = c .before .loop .inv .4 .marks
+
+returns : tie.Need-returns Inv-loop μ-loop
+returns c =
+    let l = c .before in
+    let q = cuts-of l in
+    let s = start q in
+    let a = s .args in
+    let own = ownSamples (a .at .left) in
+    samples-passed (a .sides) (a .grey) (now (a .samples)) (now (a .masks)) (3 * a .at .s) (a .at .s) (l .loop .inv .0) own (l .loop .n) (first-rooms s) (loop-rooms l)
+    (l .loop .inv .1)
+    (l .loop .inv .5)
+    (rest-uncut (a .sides) (now (a .masks)) (a .at .s) own (q .cuts-at .result) (q .cuts-at .ensures) (l .loop .inv .0) (l .loop .busy) (l .loop .inv .3) (c .loop-test .left))
+
+pub place-stretch-spec : {M : Type 1} → statement M
+place-stretch-spec =
+    tie.close
+    (tie.spec
+    Inv-loop
+    μ-loop
+    cuts-at-requires
+    sub-before
+    loop-holds
+    cast-along
+    add-t20
+    add-t21
+    place-sample-requires
+    sub-busy
+    loop-less
+    loop-again
+    same-length
+    same-length-2
+    same-length-3
+    returns)

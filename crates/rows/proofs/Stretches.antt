@@ -1,0 +1,187 @@
+-- Where stretches stand: the first of a layer, the next one, their words, samples and masks.
+use mathlib.Core.Path.{_≡_, refl, ap, sym, _∙_}
+use mathlib.Core.List.{List}
+use mathlib.Core.Bool.{Bool, true, false, cond}
+use Prim.Native.Nat.{ℕ, _+_, _*_, _-_, _/_, _^_, _<_, _≤_}
+use native.Mathlib.Nat.{mul-add, mul-one, mul-zero, mul-le-mul}
+use native.Mathlib.Omega.{arith}
+use lib.Dec.{ltb}
+use borrow.Author.Tests.{lt-ltb, le-ltb, ltb-true, ltb-false}
+use Rattle.laws.specs.Bits.{wordBits, bit}
+use Rattle.laws.proofs.Digits.{low-lt}
+use Rattle.laws.proofs.Halves.{bit-of-ones}
+use Rattle.laws.proofs.Tests.{leb-cases}
+use Rattle.laws.proofs.Words.{bit-half}
+use Rattle.grid.specs.Limits.{mostSide, mostRows, mostEdges}
+use Rattle.grid.specs.Grid.{axes, sampleCount, edgeCount}
+use Rattle.grid.specs.Work.{SidesFit}
+use Rattle.grid.proofs.Sides.{rows-most, samples-most}
+use Rattle.masks.specs.Masks.{wordCubes, rowWords, lastSamples, mostWords, AllSet}
+use Rattle.rows.specs.declared.Sides.{Sides}
+use Rattle.rows.specs.declared.Stretch.{Stretch}
+use Rattle.rows.specs.Rows.{Ready, Stands, Small, sizeOf, layerFirst, firstX, ownSamples, ownCubes, samplesMask, cubesMask, firstStretch, nextStretch}
+
+-- a grid within the limits has few edges, and few words
+pub edges-few : (sides : Sides) → SidesFit (sides .nx) (sides .ny) (sides .nz) → edgeCount axes (sizeOf sides) ≤ mostEdges
+edges-few sides fit = omega (arith, samples-most (sides .nx) (sides .ny) (sides .nz) fit)
+
+pub words-most : (nx ny nz : ℕ) → SidesFit nx ny nz → rowWords nx * (ny * nz) ≤ mostWords
+words-most nx ny nz fit =
+    mul-le-mul {n₁ = rowWords nx} {m₁ = ny * nz} {n₂ = rowWords mostSide} {m₂ = mostRows} (omega (arith, fit .most-x)) (rows-most nx ny nz fit)
+
+-- the samples of a row are samples of the grid
+pub sample-small : (sides : Sides) (y z : ℕ) → y < sides .ny → z < sides .nz → (x : ℕ) → x < sides .nx → x + sides .nx * (y + sides .ny * z) < sampleCount (sizeOf sides)
+sample-small sides y z hy hz x hx = low-lt x (sides .nx) (y + sides .ny * z) (sides .ny * sides .nz) hx (low-lt y (sides .ny) z (sides .nz) hy hz)
+
+-- the first layer begins at the first sample, and the first stretch where its layer does
+pub layer-first : (sides : Sides) → layerFirst sides 0 ≡ 0
+layer-first sides = simp mul-zero
+
+pub stands-first : (sides : Sides) → SidesFit (sides .nx) (sides .ny) (sides .nz) → sides .words ≡ rowWords (sides .nx) → (z : ℕ) → Stands sides z (firstStretch sides z)
+stands-first sides fit each z =
+    let q : sides .ny * z ≡ 0 + sides .ny * z = omega arith in
+    record {
+      words = 0;
+      each = each;
+      along = omega arith;
+      some = omega (arith, fit .least-x);
+      row = omega arith;
+      site = ap (λ r. sides .nx * r) q ∙ omega arith;
+      word = ap (λ r. sides .words * r) q ∙ omega arith;
+      last = λ e. refl;
+    }
+
+module _ (sides : Sides) (z : ℕ) (at : Stretch) (stands : Stands sides z at) where
+  abbrev row : ℕ
+  row = at .y + sides .ny * z
+
+  -- the stretch after one that is in the layer, and past the layer's last row the next layer begins
+  pub stands-next : at .y < sides .ny → Stands sides z (nextStretch sides at)
+  stands-next hy = leb-cases (at .left) wordBits (λ t. Stands sides z (on t)) short long
+    where
+      on : Bool → Stretch
+      on t = record {
+        left = cond t (sides .nx) (at .left - wordCubes);
+        y = cond t (at .y + 1) (at .y);
+        s = at .s + cond t (at .left) wordCubes;
+        word = at .word + 1;
+      }
+
+      short : at .left ≤ wordBits → Stands sides z (on true)
+      short l =
+          let last : stands .words + 1 ≡ sides .words = omega (arith, stands .each, stands .along, stands .some) in
+          let next : at .y + 1 + sides .ny * z ≡ row + 1 = omega arith in
+          record {
+            words = 0;
+            each = stands .each;
+            along = omega arith;
+            some = omega (arith, stands .along, stands .some);
+            row = omega arith;
+            site = rw next (omega (arith, stands .site, stands .along, mul-add (sides .nx) row 1, mul-one (sides .nx)));
+            word = rw next (omega (arith, stands .word, last, mul-add (sides .words) row 1, mul-one (sides .words)));
+            last = λ q. refl;
+          }
+
+      long : wordBits < at .left → Stands sides z (on false)
+      long l = record {
+        words = stands .words + 1;
+        each = stands .each;
+        along = omega (arith, stands .along);
+        some = omega arith;
+        row = stands .row;
+        site = omega (arith, stands .site);
+        word = omega (arith, stands .word);
+        last = λ q. absurd (omega arith);
+      }
+
+  pub layer-end : sides .ny ≤ at .y → at .s ≡ layerFirst sides (z + 1)
+  layer-end h =
+      let q : row ≡ sides .ny * (z + 1) = omega (arith, stands .row, mul-add (sides .ny) z 1, mul-one (sides .ny)) in
+      omega (arith, stands .site, stands .last (omega (arith, stands .row)), ap (λ r. sides .nx * r) q)
+
+  -- how far along x it begins
+  pub first-x : firstX sides at ≡ wordCubes * stands .words
+  first-x = omega (arith, stands .along)
+
+  -- its own samples and its cubes are in the word and in the row, and of its own samples the row's last alone has no cube
+  pub own-most : (ownSamples (at .left) ≤ at .left) × (ownSamples (at .left) ≤ wordBits)
+  own-most = leb-cases (at .left) wordBits (λ t. (cond t (at .left) wordCubes ≤ at .left) × (cond t (at .left) wordCubes ≤ wordBits)) (λ l. (omega arith, l)) (λ l. (omega arith, omega arith))
+
+  pub cubes-most : (ownCubes (at .left) ≤ wordCubes) × (ownCubes (at .left) < at .left) × (ownCubes (at .left) ≤ ownSamples (at .left))
+  cubes-most =
+      leb-cases (at .left) wordBits
+      (λ t. (cond t (at .left - 1) wordCubes ≤ wordCubes) × (cond t (at .left - 1) wordCubes < at .left) × (cond t (at .left - 1) wordCubes ≤ cond t (at .left) wordCubes))
+      (λ l. (omega arith, omega (arith, stands .some), omega arith))
+      (λ l. (omega arith, omega arith, omega arith))
+
+  pub own-last : (i : ℕ) → ownCubes (at .left) ≤ i → i < ownSamples (at .left) → i + 1 ≡ at .left
+  own-last i =
+      leb-cases (at .left) wordBits (λ t. cond t (at .left - 1) wordCubes ≤ i → i < cond t (at .left) wordCubes → i + 1 ≡ at .left) (λ l a b. omega arith) (λ l a b. absurd (omega arith))
+
+  -- its sample i
+  pub sample-is : (i : ℕ) → at .s + i ≡ wordCubes * stands .words + i + sides .nx * row
+  sample-is i = omega (arith, stands .site)
+
+  -- the words of the row behind it, of the one over it and of the one behind that
+  pub behind-is : at .word + sides .words ≡ stands .words + sides .words * (row + 1)
+  behind-is = omega (arith, stands .word, mul-add (sides .words) row 1, mul-one (sides .words))
+
+  pub over-is : at .word + sides .words * sides .ny ≡ stands .words + sides .words * (row + sides .ny)
+  over-is = omega (arith, stands .word, mul-add (sides .words) row (sides .ny))
+
+  pub both-is : at .word + sides .words * sides .ny + sides .words ≡ stands .words + sides .words * (row + sides .ny + 1)
+  both-is = omega (arith, over-is, mul-add (sides .words) (row + sides .ny) 1, mul-one (sides .words))
+
+  -- its word in a row of the grid is a word of the grid
+  pub word-in : (r : ℕ) → r < sides .ny * sides .nz → stands .words + sides .words * r < rowWords (sides .nx) * (sides .ny * sides .nz)
+  word-in r there =
+      rw (← (stands .each)) (low-lt (stands .words) (sides .words) r (sides .ny * sides .nz) (omega (arith, stands .each, stands .along, stands .some)) there)
+
+  module _ (hy : at .y < sides .ny) (hz : z < sides .nz) where
+    pub row-there : row < sides .ny * sides .nz
+    row-there = low-lt (at .y) (sides .ny) z (sides .nz) hy hz
+
+    pub behind-there : at .y + 1 < sides .ny → row + 1 < sides .ny * sides .nz
+    behind-there h = omega (arith, low-lt (at .y + 1) (sides .ny) z (sides .nz) h hz)
+
+    pub over-there : z + 1 < sides .nz → row + sides .ny < sides .ny * sides .nz
+    over-there h = omega (arith, low-lt (at .y) (sides .ny) (z + 1) (sides .nz) hy h, mul-add (sides .ny) z 1, mul-one (sides .ny))
+
+    pub word-there : at .word < rowWords (sides .nx) * (sides .ny * sides .nz)
+    word-there = omega (arith, stands .word, word-in row row-there)
+
+    pub sample-there : (i : ℕ) → i < at .left → at .s + i < sampleCount (sizeOf sides)
+    sample-there i l = omega (arith, sample-is i, sample-small sides (at .y) z hy hz (wordCubes * stands .words + i) (omega (arith, stands .along)))
+
+    pub stretch-small : SidesFit (sides .nx) (sides .ny) (sides .nz) → Small at
+    stretch-small fit =
+        record {
+          left = omega (arith, stands .along, fit .most-x);
+          y = omega (arith, fit .most-y);
+          s = omega (arith, sample-there 0 (omega (arith, stands .some)), samples-most (sides .nx) (sides .ny) (sides .nz) fit);
+          word = omega (arith, word-there, words-most (sides .nx) (sides .ny) (sides .nz) fit);
+        }
+
+  pub both-there : at .y + 1 < sides .ny → z + 1 < sides .nz → row + sides .ny + 1 < sides .ny * sides .nz
+  both-there hy hz = omega (arith, low-lt (at .y + 1) (sides .ny) (z + 1) (sides .nz) hy hz, mul-add (sides .ny) z 1, mul-one (sides .ny))
+
+-- the masks of a stretch's own samples and of its cubes
+module _ (sides : Sides) (masks : List ℕ) (ready : Ready sides masks) (z : ℕ) (at : Stretch) (stands : Stands sides z at) where
+  last-is : at .left ≤ wordBits → lastSamples (sides .nx) ≡ at .left
+  last-is h = omega (arith, stands .along, stands .some)
+
+  pub samples-set : AllSet (ownSamples (at .left)) (samplesMask sides (at .left))
+  samples-set x =
+      leb-cases (at .left) wordBits (λ t. bit (cond t (sides .last) (2 ^ 63 - 1)) x ≡ ltb x (cond t (at .left) wordCubes))
+      (λ l. rw (← (last-is l)) (ready .last x))
+      (λ l. bit-of-ones wordCubes (2 ^ 63 - 1) x refl)
+
+  pub cubes-set : AllSet (ownCubes (at .left)) (cubesMask sides (at .left))
+  cubes-set x =
+      leb-cases (at .left) wordBits (λ t. bit (cond t (sides .last / 2) (2 ^ 63 - 1)) x ≡ ltb x (cond t (at .left - 1) wordCubes))
+      (λ l. bit-half (sides .last) x ∙ ready .last (x + 1) ∙ ap (ltb (x + 1)) (last-is l) ∙ same (ltb (x + 1) (at .left)) refl)
+      (λ l. bit-of-ones wordCubes (2 ^ 63 - 1) x refl)
+    where
+      same : (t : Bool) → ltb (x + 1) (at .left) ≡ t → t ≡ ltb x (at .left - 1)
+      same true e = sym (lt-ltb x (at .left - 1) (omega (arith, ltb-true (x + 1) (at .left) e)))
+      same false e = sym (le-ltb x (at .left - 1) (omega (arith, ltb-false (x + 1) (at .left) e)))
