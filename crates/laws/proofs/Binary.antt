@@ -1,7 +1,7 @@
 -- The bits of a number that was put together from bits are those bits.
 use mathlib.Core.Path.{_≡_, refl}
 use mathlib.Core.List.{List, [], _∷_}
-use mathlib.Core.Bool.{Bool, true, false, not, xor}
+use mathlib.Core.Bool.{Bool, true, false}
 use Prim.Native.Nat.{ℕ, zero, suc, _+_, _*_, _/_, _%_, _^_, _<_, _≤_}
 use native.Mathlib.Nat.{pow-suc, mul-le-mul-right}
 use native.Mathlib.Omega.{arith}
@@ -43,17 +43,6 @@ number-back (suc (suc n)) h = absurd (omega arith)
 pub bit-le : (b : Bool) → one-if b ≤ 1
 bit-le true = omega arith
 bit-le false = omega arith
-
--- two remainders by 2 differ when one of them is 1 and the other not
-pub odd-differ : (p q : ℕ) → p < 2 → q < 2 → not (eqb p q) ≡ xor (eqb p 1) (eqb q 1)
-unfolding xor
-odd-differ zero zero hp hq = refl
-odd-differ zero (suc zero) hp hq = refl
-odd-differ zero (suc (suc q)) hp hq = absurd (omega arith)
-odd-differ (suc zero) zero hp hq = refl
-odd-differ (suc zero) (suc zero) hp hq = refl
-odd-differ (suc zero) (suc (suc q)) hp hq = absurd (omega arith)
-odd-differ (suc (suc p)) q hp hq = absurd (omega arith)
 
 -- a bit of a number times another is at most that other
 pub bit-times : (k n : ℕ) → k % 2 * n ≤ n

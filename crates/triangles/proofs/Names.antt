@@ -4,7 +4,7 @@ use mathlib.Core.List.{List, [], _∷_, _++_}
 use Prim.Native.Nat.{ℕ, _+_, _*_, _<_, _≤_}
 use native.Mathlib.Omega.{arith}
 use lib.ListN.{length, getD, length-map, length-append}
-use lib.Seq.{length-sets}
+use lib.Seq.{sets, length-sets}
 use Rattle.laws.specs.Mesh.{flat}
 use Rattle.laws.proofs.Writes.{sets-append}
 use Rattle.laws.proofs.Lists.{all-get, map-at}
@@ -54,6 +54,10 @@ written-none room at = record { room = refl; end = omega arith }
 pub written-on : {entry mid exit : List ℕ} {at to next : ℕ} (xs ys : List ℕ) → Written entry mid at xs to → Written mid exit to ys next → Written entry exit at (xs ++ ys) next
 written-on {entry} {mid} {exit} {at} {to} {next} xs ys w v =
     record { room = v .room ∙ rw (w .room, w .end) (sets-append entry at xs ys); end = rw length-append (omega (arith, w .end, v .end)) }
+
+-- one list, of so many numbers
+pub written-one : {entry exit : List ℕ} {at many : ℕ} {xs ys : List ℕ} → exit ≡ sets entry at xs → xs ≡ ys → many ≡ length ys → Written entry exit at ys (at + many)
+written-one {entry} {exit} {at} room same long = record { room = room ∙ ap (sets entry at) same; end = ap (λ n. at + n) long }
 
 pub written-length : {entry exit : List ℕ} {at next : ℕ} {list : List ℕ} → Written entry exit at list next → length exit ≡ length entry
 written-length {entry} {exit} {at} {next} {list} w = ap length (w .room) ∙ length-sets entry at list

@@ -6,7 +6,6 @@ use Prim.Native.Nat.{ℕ, _+_, _*_, _^_, _<_, _≤_}
 use native.Mathlib.Omega.{arith}
 use lib.Count.{trailingZeros}
 use lib.ListN.{length, getD}
-use lib.Seq.{sets}
 use Rattle.laws.specs.Bits.{wordBits}
 use Rattle.laws.specs.Range.{joinTo}
 use Rattle.laws.proofs.Ranges.{join-zero, join-next, join-quiet, join-room}
@@ -15,7 +14,7 @@ use Rattle.cuberows.specs.Cubes.{wordCase}
 use Rattle.cuberows.proofs.Cases.{CaseRead, case-read}
 use Rattle.triangles.specs.Names.{cubeNames, busyNames}
 use Rattle.triangles.specs.Walk.{CubeRoom, Written}
-use Rattle.triangles.proofs.Names.{length-cube, written-none, written-on, written-room, written-length}
+use Rattle.triangles.proofs.Names.{length-cube, written-none, written-one, written-on, written-room, written-length}
 use Rattle.triangles.proofs.write_stretch.Statement.{statement}
 use Rattle.triangles.proofs.write_stretch.Tie as tie
 
@@ -157,10 +156,7 @@ loop-again c =
       omega (arith, f .falls, l .inv .3),
       rw (join-next t (cubeOf s))
           (written-on (joinTo t (cubeOf s)) (cubeOf s t) (written-here here)
-          (record {
-            room = c .before .before .write-cube .ensures ∙ ap (sets _ _) (cube-written case);
-            end = omega (arith, many-is case);
-          })),
+          (written-one (c .before .before .write-cube .ensures) (cube-written case) (many-is case))),
     )
 
 same-length : tie.Need-same-length Inv-loop μ-loop

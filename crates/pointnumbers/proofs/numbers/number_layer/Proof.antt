@@ -1,9 +1,9 @@
 -- `pointnumbers::numbers::number_layer` meets its contract. The invariant: the stretch stands in the layer, and the edges before it are numbered. Assumes nothing.
 use mathlib.Core.Path.{sym, subst, _∙_}
-use Prim.Native.Nat.{ℕ, _+_, _*_, _-_, _≤_}
+use Prim.Native.Nat.{_*_, _-_}
 use native.Mathlib.Omega.{arith}
 use Rattle.masks.specs.Masks.{rowWords}
-use Rattle.rows.specs.Rows.{Stands, layerFirst}
+use Rattle.rows.specs.Rows.{Stands}
 use Rattle.rows.proofs.Stretches.{stands-first, stands-next, layer-end, word-there, stretch-small}
 use Rattle.pointnumbers.specs.Numbers.{NumberedTo}
 use Rattle.pointnumbers.proofs.numbers.number_layer.Statement.{statement}

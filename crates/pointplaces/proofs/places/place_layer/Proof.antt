@@ -1,7 +1,7 @@
 -- `pointplaces::places::place_layer` meets its contract. The invariant: the next stretch stands in the layer, or where the next layer begins, and the points on
 -- the edges before its own are placed. Each turn leaves a word less. Assumes nothing.
-use mathlib.Core.Path.{_≡_, refl, ap, subst, _∙_}
-use Prim.Native.Nat.{ℕ, _+_, _*_, _-_, _<_}
+use mathlib.Core.Path.{refl, ap, subst, _∙_}
+use Prim.Native.Nat.{_*_, _-_, _<_}
 use native.Mathlib.Omega.{arith}
 use denote.Ref.{now}
 use Rattle.masks.specs.Masks.{rowWords}
