@@ -89,16 +89,16 @@ module _ (sides : Sides) (masks : List ℕ) (ready : Ready sides masks) (z : ℕ
   row = at .y + sides .ny * z
 
   -- a corner's bit of its word
-  corner : (c along r word : ℕ) → i + cornerX c ≡ along → at .y + cornerY c + sides .ny * (z + cornerZ c) ≡ r → word ≡ stands .words + sides .words * r
+  corner : (c along r word : ℕ) → i + cornerX c ≡ along → at .y + cornerY c + sides .ny * (z + cornerZ c) ≡ r → word ≡ stands .past + sides .words * r
       → along ≤ i + 1 → r < sides .ny * sides .nz
-      → maskAbove (sides .nx) masks (cornerSite (sizeOf sides) (wordCubes * stands .words + i) (at .y) z c) ≡ bit (getD masks word 0) along
+      → maskAbove (sides .nx) masks (cornerSite (sizeOf sides) (wordCubes * stands .past + i) (at .y) z c) ≡ bit (getD masks word 0) along
   unfolding cornerSite site
   corner c along r word p q is l there =
       let most = cubes-most sides z at stands in
-      let x : wordCubes * stands .words + i + cornerX c ≡ wordCubes * stands .words + along = omega arith in
+      let x : wordCubes * stands .past + i + cornerX c ≡ wordCubes * stands .past + along = omega arith in
       rw (q, x, is) (sym (bit-is sides masks ready z at stands (omega arith) (omega arith) r along there (omega (arith, most)) (omega (arith, most))))
 
-  pub case-is : wordCase (cornersAt masks (sides .words) (sides .ny) (at .word)) i ≡ cubeCase sides masks z (wordCubes * stands .words + i) (at .y)
+  pub case-is : wordCase (cornersAt masks (sides .words) (sides .ny) (at .word)) i ≡ cubeCase sides masks z (wordCubes * stands .past + i) (at .y)
   unfolding wordCase caseAt caseOf bits
   case-is =
       let hy′ : at .y < sides .ny = omega arith in

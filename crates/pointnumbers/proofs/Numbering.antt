@@ -21,6 +21,14 @@ use Rattle.rows.specs.Rows.{sizeOf, cut, nextNumber}
 use Rattle.pointnumbers.specs.Numbers.{SampleNumbered, NumberedTo}
 use Rattle.rows.proofs.Busy.{Tested}
 
+-- the three edges of a sample one after the other, each tested by its word's bit
+pub sample-steps : (cuts : Cuts) (i e n : ℕ) (work : List ℕ) {past-x past-y next : ℕ} {with-x with-y after : List ℕ} {x y z : Bool}
+    → x ≡ bit (cuts .x) i → past-x ≡ nextNumber x n → with-x ≡ set work e n
+    → y ≡ bit (cuts .y) i → past-y ≡ nextNumber y past-x → with-y ≡ set with-x (e + 1) past-x
+    → z ≡ bit (cuts .z) i → next ≡ nextNumber z past-y → after ≡ set with-y (e + 2) past-y
+    → SampleNumbered cuts i e n next work after
+sample-steps cuts i e n work x nx wx y ny wy z nz wz = record { counted = cc; written = cc }
+
 module _ (sides : Sides) (masks : List ℕ) where
   abbrev rank : ℕ → ℕ
   rank = number axes (sizeOf sides) (maskAbove (sides .nx) masks)

@@ -35,12 +35,12 @@ module _ (sides : Sides) (masks : List ℕ) (ready : Ready sides masks) (z : ℕ
 
   -- the x of sample i
   abbrev x : ℕ → ℕ
-  x i = wordCubes * stands .words + i
+  x i = wordCubes * stands .past + i
 
   -- bit i of the stretch's word in a row
-  pub bit-is : (r i : ℕ) → r < sides .ny * sides .nz → i < wordBits → i < at .left → bit (getD masks (stands .words + sides .words * r) 0) i ≡ above (x i + sides .nx * r)
+  pub bit-is : (r i : ℕ) → r < sides .ny * sides .nz → i < wordBits → i < at .left → bit (getD masks (stands .past + sides .words * r) 0) i ≡ above (x i + sides .nx * r)
   bit-is r i there small inside =
-      rw (stands .each) (ready .agree r (stands .words) i there (omega (arith, stands .along, stands .some)) small (omega (arith, stands .along)))
+      rw (stands .each) (ready .agree r (stands .past) i there (omega (arith, stands .along, stands .some)) small (omega (arith, stands .along)))
 
   abbrev here : ℕ
   here = getD masks (at .word) 0

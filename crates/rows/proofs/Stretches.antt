@@ -19,7 +19,7 @@ use Rattle.grid.proofs.Sides.{rows-most, samples-most}
 use Rattle.masks.specs.Masks.{wordCubes, rowWords, lastSamples, mostWords, AllSet}
 use Rattle.rows.specs.declared.Sides.{Sides}
 use Rattle.rows.specs.declared.Stretch.{Stretch}
-use Rattle.rows.specs.Rows.{Ready, Stands, Small, sizeOf, layerFirst, firstX, ownSamples, ownCubes, samplesMask, cubesMask, firstStretch, nextStretch}
+use Rattle.rows.specs.Rows.{Ready, Stands, Addable, sizeOf, layerFirst, firstX, ownSamples, ownCubes, samplesMask, cubesMask, firstStretch, nextStretch}
 
 -- a grid within the limits has few edges, and few words
 pub edges-few : (sides : Sides) → SidesFit (sides .nx) (sides .ny) (sides .nz) → edgeCount axes (sizeOf sides) ≤ mostEdges
@@ -41,7 +41,7 @@ pub stands-first : (sides : Sides) → SidesFit (sides .nx) (sides .ny) (sides .
 stands-first sides fit each z =
     let q : sides .ny * z ≡ 0 + sides .ny * z = omega arith in
     record {
-      words = 0;
+      past = 0;
       each = each;
       along = omega arith;
       some = omega (arith, fit .least-x);
@@ -69,10 +69,10 @@ module _ (sides : Sides) (z : ℕ) (at : Stretch) (stands : Stands sides z at) w
 
       short : at .left ≤ wordBits → Stands sides z (on true)
       short l =
-          let last : stands .words + 1 ≡ sides .words = omega (arith, stands .each, stands .along, stands .some) in
+          let last : stands .past + 1 ≡ sides .words = omega (arith, stands .each, stands .along, stands .some) in
           let next : at .y + 1 + sides .ny * z ≡ row + 1 = omega arith in
           record {
-            words = 0;
+            past = 0;
             each = stands .each;
             along = omega arith;
             some = omega (arith, stands .along, stands .some);
@@ -84,7 +84,7 @@ module _ (sides : Sides) (z : ℕ) (at : Stretch) (stands : Stands sides z at) w
 
       long : wordBits < at .left → Stands sides z (on false)
       long l = record {
-        words = stands .words + 1;
+        past = stands .past + 1;
         each = stands .each;
         along = omega (arith, stands .along);
         some = omega arith;
@@ -100,7 +100,7 @@ module _ (sides : Sides) (z : ℕ) (at : Stretch) (stands : Stands sides z at) w
       omega (arith, stands .site, stands .last (omega (arith, stands .row)), ap (λ r. sides .nx * r) q)
 
   -- how far along x it begins
-  pub first-x : firstX sides at ≡ wordCubes * stands .words
+  pub first-x : firstX sides at ≡ wordCubes * stands .past
   first-x = omega (arith, stands .along)
 
   -- its own samples and its cubes are in the word and in the row, and of its own samples the row's last alone has no cube
@@ -119,23 +119,23 @@ module _ (sides : Sides) (z : ℕ) (at : Stretch) (stands : Stands sides z at) w
       leb-cases (at .left) wordBits (λ t. cond t (at .left - 1) wordCubes ≤ i → i < cond t (at .left) wordCubes → i + 1 ≡ at .left) (λ l a b. omega arith) (λ l a b. absurd (omega arith))
 
   -- its sample i
-  pub sample-is : (i : ℕ) → at .s + i ≡ wordCubes * stands .words + i + sides .nx * row
+  pub sample-is : (i : ℕ) → at .s + i ≡ wordCubes * stands .past + i + sides .nx * row
   sample-is i = omega (arith, stands .site)
 
   -- the words of the row behind it, of the one over it and of the one behind that
-  pub behind-is : at .word + sides .words ≡ stands .words + sides .words * (row + 1)
+  pub behind-is : at .word + sides .words ≡ stands .past + sides .words * (row + 1)
   behind-is = omega (arith, stands .word, mul-add (sides .words) row 1, mul-one (sides .words))
 
-  pub over-is : at .word + sides .words * sides .ny ≡ stands .words + sides .words * (row + sides .ny)
+  pub over-is : at .word + sides .words * sides .ny ≡ stands .past + sides .words * (row + sides .ny)
   over-is = omega (arith, stands .word, mul-add (sides .words) row (sides .ny))
 
-  pub both-is : at .word + sides .words * sides .ny + sides .words ≡ stands .words + sides .words * (row + sides .ny + 1)
+  pub both-is : at .word + sides .words * sides .ny + sides .words ≡ stands .past + sides .words * (row + sides .ny + 1)
   both-is = omega (arith, over-is, mul-add (sides .words) (row + sides .ny) 1, mul-one (sides .words))
 
   -- its word in a row of the grid is a word of the grid
-  pub word-in : (r : ℕ) → r < sides .ny * sides .nz → stands .words + sides .words * r < rowWords (sides .nx) * (sides .ny * sides .nz)
+  pub word-in : (r : ℕ) → r < sides .ny * sides .nz → stands .past + sides .words * r < rowWords (sides .nx) * (sides .ny * sides .nz)
   word-in r there =
-      rw (← (stands .each)) (low-lt (stands .words) (sides .words) r (sides .ny * sides .nz) (omega (arith, stands .each, stands .along, stands .some)) there)
+      rw (← (stands .each)) (low-lt (stands .past) (sides .words) r (sides .ny * sides .nz) (omega (arith, stands .each, stands .along, stands .some)) there)
 
   module _ (hy : at .y < sides .ny) (hz : z < sides .nz) where
     pub row-there : row < sides .ny * sides .nz
@@ -151,9 +151,9 @@ module _ (sides : Sides) (z : ℕ) (at : Stretch) (stands : Stands sides z at) w
     word-there = omega (arith, stands .word, word-in row row-there)
 
     pub sample-there : (i : ℕ) → i < at .left → at .s + i < sampleCount (sizeOf sides)
-    sample-there i l = omega (arith, sample-is i, sample-small sides (at .y) z hy hz (wordCubes * stands .words + i) (omega (arith, stands .along)))
+    sample-there i l = omega (arith, sample-is i, sample-small sides (at .y) z hy hz (wordCubes * stands .past + i) (omega (arith, stands .along)))
 
-    pub stretch-small : SidesFit (sides .nx) (sides .ny) (sides .nz) → Small at
+    pub stretch-small : SidesFit (sides .nx) (sides .ny) (sides .nz) → Addable at
     stretch-small fit =
         record {
           left = omega (arith, stands .along, fit .most-x);

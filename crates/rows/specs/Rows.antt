@@ -37,19 +37,19 @@ layerFirst sides z = sides .nx * (sides .ny * z)
 abbrev pub firstX : Sides → Stretch → ℕ
 firstX sides at = sides .nx - at .left
 
--- A stretch of layer z: so many words of its row are before it, it has a cube at least, and it begins at its sample and its word. Past the last row the next one's first would be.
+-- A stretch of layer z: so many words of its row are past, it has a cube at least, and it begins at its sample and its word. Past the last row the next one's first would be.
 pub record Stands (sides : Sides) (z : ℕ) (at : Stretch) : Type 0 where
-  pub words : ℕ
+  pub past : ℕ
   pub each : sides .words ≡ rowWords (sides .nx)
-  pub along : sides .nx ≡ wordCubes * words + at .left
+  pub along : sides .nx ≡ wordCubes * past + at .left
   pub some : 2 ≤ at .left
   pub row : at .y ≤ sides .ny
-  pub site : at .s ≡ wordCubes * words + sides .nx * (at .y + sides .ny * z)
-  pub word : at .word ≡ words + sides .words * (at .y + sides .ny * z)
-  pub last : at .y ≡ sides .ny → words ≡ 0
+  pub site : at .s ≡ wordCubes * past + sides .nx * (at .y + sides .ny * z)
+  pub word : at .word ≡ past + sides .words * (at .y + sides .ny * z)
+  pub last : at .y ≡ sides .ny → past ≡ 0
 
 -- a stretch's numbers are small enough to be added to
-pub record Small (at : Stretch) : Type 0 where
+pub record Addable (at : Stretch) : Type 0 where
   pub left : at .left < 2 ^ 32
   pub y : at .y < 2 ^ 32
   pub s : at .s < 2 ^ 32

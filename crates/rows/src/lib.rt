@@ -6,7 +6,7 @@ ghost use lib.ListN.{length, getD};
 ghost use Rattle.laws.specs.Bits.{wordBits, bit};
 ghost use Rattle.grid.specs.Work.{SidesFit};
 ghost use Rattle.masks.specs.Masks.{rowWords};
-ghost use Rattle.rows.specs.Rows.{Ready, Stands, Small, firstStretch, nextStretch, ownSamples, cubesMask, samplesMask, CutWords};
+ghost use Rattle.rows.specs.Rows.{Ready, Stands, Addable, firstStretch, nextStretch, ownSamples, cubesMask, samplesMask, CutWords};
 use masks::WORD_CUBES;
 use masks::WORD_SAMPLES;
 
@@ -55,7 +55,7 @@ pub fn first(sides: Sides, z: usize) -> Stretch
 
 // The stretch after one: further along its row, or the next row's first. Stretches of one row have a sample in common, which is the later one's own.
 pub fn next(sides: Sides, at: Stretch) -> Stretch
-    requires { ⌜ Small at ⌝ }
+    requires { ⌜ Addable at ⌝ }
     ensures { λ r. ⌜ r ≡ nextStretch sides at ⌝ }
 {
     if at.left <= WORD_SAMPLES {

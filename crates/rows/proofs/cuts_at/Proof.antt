@@ -14,7 +14,7 @@ use Rattle.rows.proofs.cuts_at.Statement.{statement}
 use Rattle.rows.proofs.cuts_at.Tie as tie
 
 -- the stretch's word in a row of the grid is among the words
-among : (s : tie.Start) (r : ℕ) → r < s .args .sides .ny * s .args .sides .nz → {word : ℕ} → word ≡ s .pre .1 .0 .words + s .args .sides .words * r → word < length (s .args .masks .now)
+among : (s : tie.Start) (r : ℕ) → r < s .args .sides .ny * s .args .sides .nz → {word : ℕ} → word ≡ s .pre .1 .0 .past + s .args .sides .words * r → word < length (s .args .masks .now)
 among s r there is = omega (arith, is, s .pre .0 .rows, word-in (s .args .sides) (s .args .z) (s .args .at) (s .pre .1 .0) r there)
 
 own-among : (s : tie.Start) → s .args .at .word < length (s .args .masks .now)

@@ -2,6 +2,7 @@
 use native.Mathlib.Omega.{arith}
 use borrow.Author.Needs.{needs}
 use Rattle.laws.proofs.Binary.{bit-le}
+use Rattle.pointnumbers.proofs.Numbering.{sample-steps}
 use Rattle.pointnumbers.proofs.numbers.number_sample.Statement.{statement}
 use Rattle.pointnumbers.proofs.numbers.number_sample.Tie as tie
 
@@ -35,7 +36,21 @@ same-length : tie.Need-same-length
 same-length c = search needs
 
 returns : tie.Need-returns
-returns c = record { counted = cc; written = cc }
+returns c =
+    let z = c .before .before in
+    let y = z .before .before .before .before .before in
+    let x = y .before .before .before .before .before in
+    let a = x .before .before .before .before .args in
+    sample-steps (a .cuts) (a .i) (a .e) (a .n) (a .work .now)
+    (x .before .before .is-set .ensures)
+    (x .number-edge .ensures .0)
+    (x .number-edge .ensures .1)
+    (y .before .before .is-set2 .ensures)
+    (y .number-edge2 .ensures .0)
+    (y .number-edge2 .ensures .1)
+    (z .before .before .is-set3 .ensures)
+    (z .number-edge3 .ensures .0)
+    (z .number-edge3 .ensures .1)
 
 pub number-sample-spec : {M : Type 1} → statement M
 number-sample-spec =
