@@ -1,18 +1,17 @@
 -- The words of a row, one after the other; of row after row; and of all rows, batch after batch.
 use mathlib.Core.Path.{_≡_, refl, ap, sym, subst, _∙_}
 use mathlib.Core.List.{List}
-use mathlib.Core.Bool.{Bool, true, false, cond}
+use mathlib.Core.Bool.{Bool, cond}
 use Prim.Native.Nat.{ℕ, _+_, _*_, _-_, _/_, _<_, _≤_}
 use native.Mathlib.Decide.{decLt}
 use native.Mathlib.Nat.{mul-comm, mul-add, mul-zero, one-mul, zero-add, le-div-iff-mul-le}
 use native.Mathlib.Omega.{arith}
-use lib.Dec.{leb}
 use lib.ListN.{length, getD, set}
 use lib.Seq.{getD-set-same, getD-set-other}
-use borrow.Author.Tests.{leb-true}
 use Rattle.laws.specs.Bits.{wordBits, bit}
 use Rattle.laws.specs.Room.{laid}
 use Rattle.laws.proofs.Digits.{low-lt}
+use Rattle.laws.proofs.Tests.{leb-cases}
 use Rattle.grid.specs.Grid.{isAboveGrey}
 use Rattle.masks.specs.Masks.{wordCubes, rowWords, Masked}
 use Rattle.masks.specs.Flags.{flagsFrom, flagSet, flagMask, gathered, Gathered}
@@ -21,11 +20,7 @@ use Rattle.masks.proofs.Gather.{mask-bit}
 
 -- samples are among the flags that they are gathered from
 pub samples-within : (many : ℕ) → many ≤ wordBits → many ≤ gathered many
-samples-within many l = go (leb many (wordBits / 2)) refl
-  where
-    go : (t : Bool) → leb many (wordBits / 2) ≡ t → many ≤ cond t (wordBits / 2) wordBits
-    go true e = leb-true many (wordBits / 2) e
-    go false e = l
+samples-within many l = leb-cases many (wordBits / 2) (λ t. many ≤ cond t (wordBits / 2) wordBits) (λ short. short) (λ long. l)
 
 -- the first words of a row, whose flags stand from `at` on, are written from place `from` to place `to`, and those before them are as they were
 pub record WordsTo (flags : List ℕ) (nx at from to : ℕ) (entry exit : List ℕ) : Type 0 where

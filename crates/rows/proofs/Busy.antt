@@ -5,7 +5,7 @@ use mathlib.Core.Bool.{Bool, true, false, _&&_, true≢false}
 use Prim.Native.Nat.{ℕ, zero, suc, _+_, _*_, _-_, _/_, _%_, _^_, _<_, _≤_}
 use native.Mathlib.Decide.{decLt}
 use native.Mathlib.Omega.{arith}
-use lib.Bits.{bitAnd, bitOr}
+use lib.Bits.{bitAnd, bitOr, or-lt}
 use lib.Count.{trailingZeros}
 use borrow.Author.Tests.{lt-ltb, le-ltb}
 use Rattle.laws.specs.Bits.{wordBits, bit}
@@ -18,6 +18,9 @@ use Rattle.rows.specs.Rows.{cut, CutWords}
 -- the samples that an edge leaves which is crossed
 abbrev pub busyOf : Cuts → ℕ
 busyOf cuts = bitOr (bitOr (cuts .x) (cuts .y)) (cuts .z)
+
+pub busy-small : (cuts : Cuts) → cuts .x < 2 ^ 64 → cuts .y < 2 ^ 64 → cuts .z < 2 ^ 64 → busyOf cuts < 2 ^ 64
+busy-small cuts x y z = or-lt 64 _ _ (or-lt 64 _ _ x y) z
 
 -- the three edges that leave a sample, of which e is the first, are crossed as the tests say
 pub record Tested (sides : Sides) (masks : List ℕ) (e : ℕ) (x y z : Bool) : Type 0 where

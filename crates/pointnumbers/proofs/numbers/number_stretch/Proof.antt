@@ -3,14 +3,13 @@
 use mathlib.Core.Path.{sym, _∙_}
 use Prim.Native.Nat.{_+_, _*_, _<_, _≤_}
 use native.Mathlib.Omega.{arith}
-use lib.Bits.{or-lt}
 use lib.Count.{trailingZeros}
 use Rattle.laws.specs.Bits.{wordBits}
 use Rattle.grid.specs.Limits.{mostEdges}
 use Rattle.grid.specs.Grid.{axes, edgeCount}
 use Rattle.rows.specs.Rows.{sizeOf, ownSamples}
 use Rattle.rows.proofs.Stretches.{edges-few, own-most, sample-there}
-use Rattle.rows.proofs.Busy.{busyOf, Found}
+use Rattle.rows.proofs.Busy.{busyOf, busy-small, Found}
 use Rattle.pointnumbers.specs.Numbers.{NumberedTo}
 use Rattle.pointnumbers.proofs.Numbering.{numbers-few}
 use Rattle.pointnumbers.proofs.Walk.{Walked, walk-first, walk-last, next-busy, walk-to, walk-on}
@@ -37,7 +36,7 @@ loop-holds c =
     let cuts = c .before .before .cuts-at .result in
     let a = c .before .before .before .before .before .args in
     walk-first (a .masks .now) (a .at .s) (ownSamples (a .at .left)) cuts (a .from) (a .work .now)
-    (or-lt 64 _ (cuts .z) (or-lt 64 (cuts .x) (cuts .y) (omega (arith, fits .0)) (omega (arith, fits .1 .0))) (omega (arith, fits .1 .1 .0)))
+    (busy-small cuts (omega (arith, fits)) (omega (arith, fits)) (omega (arith, fits)))
 
 -- the next busy sample
 found-next : (c : tie.In-loop Inv-loop μ-loop)

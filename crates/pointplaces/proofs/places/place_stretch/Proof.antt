@@ -3,17 +3,15 @@
 use mathlib.Core.Path.{_≡_, refl, _∙_}
 use Prim.Native.Nat.{ℕ, _+_, _*_, _^_, _<_, _≤_}
 use native.Mathlib.Omega.{arith}
-use lib.Bits.{or-lt}
 use lib.Count.{trailingZeros}
 use denote.Ref.{now}
 use Rattle.laws.specs.Bits.{wordBits}
 use Rattle.laws.proofs.Scan.{Left, left-all}
-use Rattle.rows.specs.declared.Cuts.{Cuts}
 use Rattle.rows.specs.Rows.{firstX, ownSamples}
 use Rattle.edgepoints.specs.EdgePoint.{PointRooms, pointRooms}
 use Rattle.pointplaces.specs.Places.{countAll, Advanced}
 use Rattle.rows.proofs.Stretches.{first-x, own-most, sample-is, stretch-small}
-use Rattle.rows.proofs.Busy.{busyOf, tested, Found, found, rest-uncut}
+use Rattle.rows.proofs.Busy.{busyOf, busy-small, tested, Found, found, rest-uncut}
 use Rattle.pointplaces.proofs.Placing.{SameLengths, BitsTested, room-kept, samples-passed, advanced-none, advanced-on, sample-passed}
 use Rattle.pointplaces.proofs.Ends.{sample-placeable}
 use Rattle.pointplaces.proofs.places.place_stretch.Statement.{statement}
@@ -56,10 +54,6 @@ cuts-at-requires c κs =
 
 sub-before : tie.Need-sub-before Inv-loop μ-loop
 sub-before c = omega (arith, start (c .before .before) .pre .1 .0 .along)
-
--- the busy samples' bits are a word
-busy-small : (cuts : Cuts) → cuts .x < 2 ^ 64 → cuts .y < 2 ^ 64 → cuts .z < 2 ^ 64 → busyOf cuts < 2 ^ 64
-busy-small cuts x y z = or-lt 64 _ _ (or-lt 64 _ _ x y) z
 
 loop-holds : tie.Need-loop-holds Inv-loop μ-loop
 loop-holds c =
