@@ -7,7 +7,6 @@ use native.Mathlib.Decide.{decLt}
 use native.Mathlib.Omega.{arith}
 use lib.ListN.{length, getD, set, length-set}
 use lib.Seq.{getD-set-same, getD-set-other}
-use Rattle.laws.specs.Bits.{bit}
 use Rattle.laws.specs.Range.{one-if, countTo, sumTo}
 use Rattle.laws.proofs.Keep.{count-next, length-keep}
 use Rattle.laws.proofs.Ranges.{count-split, count-le, count-none}
@@ -20,14 +19,6 @@ use Rattle.rows.specs.declared.Cuts.{Cuts}
 use Rattle.rows.specs.Rows.{sizeOf, cut, nextNumber}
 use Rattle.pointnumbers.specs.Numbers.{SampleNumbered, NumberedTo}
 use Rattle.rows.proofs.Busy.{Tested}
-
--- the three edges of a sample one after the other, each tested by its word's bit
-pub sample-steps : (cuts : Cuts) (i e n : ℕ) (work : List ℕ) {past-x past-y next : ℕ} {with-x with-y after : List ℕ} {x y z : Bool}
-    → x ≡ bit (cuts .x) i → past-x ≡ nextNumber x n → with-x ≡ set work e n
-    → y ≡ bit (cuts .y) i → past-y ≡ nextNumber y past-x → with-y ≡ set with-x (e + 1) past-x
-    → z ≡ bit (cuts .z) i → next ≡ nextNumber z past-y → after ≡ set with-y (e + 2) past-y
-    → SampleNumbered cuts i e n next work after
-sample-steps cuts i e n work x nx wx y ny wy z nz wz = record { counted = cc; written = cc }
 
 module _ (sides : Sides) (masks : List ℕ) where
   abbrev rank : ℕ → ℕ
@@ -76,10 +67,10 @@ module _ (sides : Sides) (masks : List ℕ) where
           absurd (true≢false (sym t ∙ ap (cut sides masks) (sym q) ∙ none (i - e) (omega arith)))
 
   -- the three edges that leave a sample
-  pub sample-passed : (e n next : ℕ) (work after : List ℕ) (cuts : Cuts) (i : ℕ) → NumberedTo sides masks e n work → e + 2 < edgeCount axes (sizeOf sides)
-      → Tested sides masks e (bit (cuts .x) i) (bit (cuts .y) i) (bit (cuts .z) i) → SampleNumbered cuts i e n next work after
+  pub sample-passed : (e n next : ℕ) (work after : List ℕ) (cuts : Cuts) → NumberedTo sides masks e n work → e + 2 < edgeCount axes (sizeOf sides)
+      → Tested sides masks e cuts → SampleNumbered cuts e n next work after
       → NumberedTo sides masks (e + 3) next after
-  sample-passed e n next work after cuts i so h by step =
+  sample-passed e n next work after cuts so h by step =
       let past-x = edge-passed e n work so (omega arith) _ (by .along-x) in
       let past-y = edge-passed (e + 1) _ _ past-x (omega arith) _ (by .along-y) in
       let two : e + 1 + 1 ≡ e + 2 = omega arith in

@@ -2,14 +2,12 @@
 ghost use mathlib.Core.Path.{_≡_};
 ghost use Prim.Native.Nat.{_+_, _*_, _<_, _≤_};
 ghost use lib.ListN.{length, set};
-ghost use Rattle.laws.specs.Bits.{wordBits};
 ghost use Rattle.grid.specs.Limits.{mostEdges};
 ghost use Rattle.rows.specs.Rows.{Ready, Stands, ownSamples, layerFirst, nextNumber};
 ghost use Rattle.pointnumbers.specs.Numbers.{SampleNumbered, NumberedTo};
 use rows::Cuts;
 use rows::Sides;
 use rows::Stretch;
-use rows::is_set;
 
 // Writes the next number at an edge, and answers the number after it: the same one again where the edge is not crossed.
 fn number_edge(cut: bool, e: usize, n: u32, work: &mut [u32]) -> u32
@@ -23,17 +21,16 @@ fn number_edge(cut: bool, e: usize, n: u32, work: &mut [u32]) -> u32
     if cut { n + 1 } else { n }
 }
 
-// The same at the three edges that leave sample i of a stretch, of which e is the first.
-fn number_sample(cuts: Cuts, i: u32, e: usize, n: u32, work: &mut [u32]) -> u32
-    requires { ⌜ i < wordBits ⌝ }
+// The same at the three edges that leave a sample, of which e is the first.
+fn number_sample(cuts: Cuts, e: usize, n: u32, work: &mut [u32]) -> u32
     requires { ⌜ n ≤ e ⌝ }
     requires { ⌜ e + 2 < length (now work) ⌝ }
     requires { ⌜ length (now work) ≤ mostEdges ⌝ }
-    ensures { λ r. ⌜ SampleNumbered cuts i e n r (now (work .entry)) (now (work .exit)) ⌝ }
+    ensures { λ r. ⌜ SampleNumbered cuts e n r (now (work .entry)) (now (work .exit)) ⌝ }
 {
-    let past_x = number_edge(is_set(cuts.x, i), e, n, work);
-    let past_y = number_edge(is_set(cuts.y, i), e + 1, past_x, work);
-    number_edge(is_set(cuts.z, i), e + 2, past_y, work)
+    let past_x = number_edge(cuts.x, e, n, work);
+    let past_y = number_edge(cuts.y, e + 1, past_x, work);
+    number_edge(cuts.z, e + 2, past_y, work)
 }
 
 // The points of a stretch's own samples, from a number on, at one busy sample after the other. Answers the number after the last.
@@ -52,13 +49,13 @@ fn number_stretch(
     requires { ⌜ NumberedTo sides (now masks) (3 * at .s) from (now work) ⌝ }
     ensures { λ r. ⌜ NumberedTo sides (now (masks .entry)) (3 * (at .s + ownSamples (at .left))) r (now (work .exit)) ⌝ }
 {
-    let cuts = rows::cuts_at(sides, at, z, masks);
-    let mut busy = cuts.x | cuts.y | cuts.z;
+    let crossed = rows::crossed_at(sides, at, z, masks);
+    let mut busy = crossed.x | crossed.y | crossed.z;
     let mut n = from;
     while busy != 0 {
         let i = u64::trailing_zeros(busy);
         let e = 3 * (at.s + (i as usize));
-        n = number_sample(cuts, i, e, n, work);
+        n = number_sample(crossed.cuts(i), e, n, work);
         busy = busy & (busy - 1);
     }
     n

@@ -8,7 +8,6 @@ use native.Mathlib.Omega.{arith}
 use lib.Dec.{leb, ltb}
 use lib.ListN.{getD}
 use borrow.Author.Tests.{ltb-true}
-use Rattle.laws.specs.Bits.{bit}
 use Rattle.laws.specs.Range.{one-if}
 use Rattle.laws.proofs.Tests.{both}
 use Rattle.laws.proofs.Keep.{rank-lt}
@@ -24,7 +23,8 @@ use Rattle.pointplaces.specs.Places.{SamplePlaceable, Given, countBelow,
 use Rattle.masks.proofs.Above.{told-above}
 use Rattle.rows.proofs.Stretches.{sample-small}
 use Rattle.rows.proofs.Cut.{same-ends}
-use Rattle.pointplaces.proofs.Placing.{BitsTested, count-next-edge}
+use Rattle.rows.proofs.Busy.{Tested}
+use Rattle.pointplaces.proofs.Placing.{count-next-edge}
 
 module _ (sides : Sides) (grey : ℕ) (samples masks : List ℕ) (given : Given sides grey samples masks) where
   abbrev above : ℕ → Bool
@@ -85,15 +85,14 @@ module _ (sides : Sides) (grey : ℕ) (samples masks : List ℕ) (given : Given 
         let q : y + sides .ny * (z + 1) ≡ y + sides .ny * z + sides .ny = omega (arith, mul-add (sides .ny) z 1, mul-one (sides .ny)) in
         omega (arith, rw q at (sample-small sides y (z + 1) hy (ltb-true _ _ h) x hx), mul-add (sides .nx) (y + sides .ny * z) (sides .ny))
 
-    at-sample : (n : ℕ) (cuts : Cuts) (i : ℕ) (r : PointRooms) → n ≡ countBelow sides masks (3 * s)
-        → BitsTested sides masks s cuts i → RoomsFor (countAll sides masks) r
-        → SamplePlaceable sides samples s n cuts i r
+    at-sample : (n : ℕ) (cuts : Cuts) (r : PointRooms) → n ≡ countBelow sides masks (3 * s) → Tested sides masks (3 * s) cuts → RoomsFor (countAll sides masks) r
+        → SamplePlaceable sides samples s n cuts r
     unfolding site
-    at-sample n cuts i r counted by fits =
+    at-sample n cuts r counted by fits =
         let size = sizeOf sides in
-        let one : nextNumber (bit (cuts .x) i) n ≡ countBelow sides masks (3 * s + 1) = omega (arith, counted, count-next-edge sides grey samples masks (3 * s), ap one-if (by .along-x)) in
+        let one : nextNumber (cuts .x) n ≡ countBelow sides masks (3 * s + 1) = omega (arith, counted, count-next-edge sides grey samples masks (3 * s), ap one-if (by .along-x)) in
         let step : 3 * s + 1 + 1 ≡ 3 * s + 2 = omega arith in
-        let two : nextNumber (bit (cuts .y) i) (nextNumber (bit (cuts .x) i) n) ≡ countBelow sides masks (3 * s + 2)
+        let two : nextNumber (cuts .y) (nextNumber (cuts .x) n) ≡ countBelow sides masks (3 * s + 2)
         = omega (arith, one, rw step at (count-next-edge sides grey samples masks (3 * s + 1)), ap one-if (by .along-y)) in
         record {
           along-x = λ h.
@@ -116,7 +115,6 @@ module _ (sides : Sides) (grey : ℕ) (samples masks : List ℕ) (given : Given 
               (by .along-z ∙ h);
         }
 
-    pub sample-placeable : (at n : ℕ) (cuts : Cuts) (i : ℕ) (r : PointRooms) → at ≡ s → n ≡ countBelow sides masks (3 * at)
-        → BitsTested sides masks at cuts i → RoomsFor (countAll sides masks) r
-        → SamplePlaceable sides samples at n cuts i r
-    sample-placeable at n cuts i r is counted by fits = rw is (at-sample n cuts i r (rw is at counted) (rw is at by) fits)
+    pub sample-placeable : (at n : ℕ) (cuts : Cuts) (r : PointRooms) → at ≡ s → n ≡ countBelow sides masks (3 * at) → Tested sides masks (3 * at) cuts
+        → RoomsFor (countAll sides masks) r → SamplePlaceable sides samples at n cuts r
+    sample-placeable at n cuts r is counted by fits = rw is (at-sample n cuts r (rw is at counted) (rw is at by) fits)

@@ -6,7 +6,6 @@ use Prim.Native.Nat.{ℕ, _+_, _*_, _-_, _/_, _%_, _<_, _≤_}
 use native.Mathlib.Omega.{arith}
 use lib.ListN.{length, length-map}
 use lib.Seq.{sets}
-use Rattle.laws.specs.Bits.{bit}
 use Rattle.laws.specs.Range.{one-if, sumTo, countTo, joinTo, keepTo}
 use Rattle.laws.specs.Room.{laid}
 use Rattle.laws.proofs.Keep.{length-keep, keep-next, count-next}
@@ -40,18 +39,13 @@ pub still-placeable : (size : Size) (samples : List ℕ) (s axis n next : ℕ) (
 still-placeable size samples s axis n next before after same is able =
     rw is record { there = able .there; differ = able .differ; room = room-kept (n + 1) before after same (able .room) }
 
--- the three edges that leave sample s are crossed as bit i of each word says
-abbrev pub BitsTested : Sides → List ℕ → ℕ → Cuts → ℕ → Type 0
-BitsTested sides masks s cuts i = Tested sides masks (3 * s) (bit (cuts .x) i) (bit (cuts .y) i) (bit (cuts .z) i)
-
--- the three edges of a sample one after the other, by the tests of its bits
-pub sample-steps : (sides : Sides) (grey : ℕ) (samples : List ℕ) (s n : ℕ) (cuts : Cuts) (i : ℕ) (r : PointRooms) (bx by bz : Bool) (x y z : ℕ) (past-x past-y past-z : PointRooms)
-    → bx ≡ bit (cuts .x) i → by ≡ bit (cuts .y) i → bz ≡ bit (cuts .z) i
-    → x ≡ nextNumber bx n → past-x ≡ withPlaced bx n (pointFrom (sizeOf sides) grey samples s 0) r
-    → y ≡ nextNumber by x → past-y ≡ withPlaced by x (pointFrom (sizeOf sides) grey samples s 1) past-x
-    → z ≡ nextNumber bz y → past-z ≡ withPlaced bz y (pointFrom (sizeOf sides) grey samples s 2) past-y
-    → SamplePlaced sides grey samples s n z cuts i r past-z
-sample-steps sides grey samples s n cuts i r bx by bz x y z past-x past-y past-z sx sy sz nx px ny py nz pz = record { counted = cc; placed = cc }
+-- the three edges of a sample one after the other
+pub sample-steps : (sides : Sides) (grey : ℕ) (samples : List ℕ) (s n : ℕ) (cuts : Cuts) (r : PointRooms) (x y z : ℕ) (past-x past-y past-z : PointRooms)
+    → x ≡ nextNumber (cuts .x) n → past-x ≡ withPlaced (cuts .x) n (pointFrom (sizeOf sides) grey samples s 0) r
+    → y ≡ nextNumber (cuts .y) x → past-y ≡ withPlaced (cuts .y) x (pointFrom (sizeOf sides) grey samples s 1) past-x
+    → z ≡ nextNumber (cuts .z) y → past-z ≡ withPlaced (cuts .z) y (pointFrom (sizeOf sides) grey samples s 2) past-y
+    → SamplePlaced sides grey samples s n z cuts r past-z
+sample-steps sides grey samples s n cuts r x y z past-x past-y past-z nx px ny py nz pz = record { counted = cc; placed = cc }
 
 -- points written after others
 written-append : (r : PointRooms) (n next : ℕ) (ps qs : List Point) → next ≡ n + length ps → placedFrom (placedFrom r n ps) next qs ≡ placedFrom r n (ps ++ qs)
@@ -129,10 +123,9 @@ module _ (sides : Sides) (grey : ℕ) (samples masks : List ℕ) where
       let along : e % 3 ≡ axis = omega arith in
       rw (sample, along)
 
-  pub sample-passed : (s n next : ℕ) (cuts : Cuts) (i : ℕ) (r after : PointRooms) → n ≡ countBelow sides masks (3 * s)
-      → BitsTested sides masks s cuts i
-      → SamplePlaced sides grey samples s n next cuts i r after → Advanced sides grey samples masks (3 * s) (3 * (s + 1)) next r after
-  sample-passed s n next cuts i r after counted by step =
+  pub sample-passed : (s n next : ℕ) (cuts : Cuts) (r after : PointRooms) → n ≡ countBelow sides masks (3 * s) → Tested sides masks (3 * s) cuts
+      → SamplePlaced sides grey samples s n next cuts r after → Advanced sides grey samples masks (3 * s) (3 * (s + 1)) next r after
+  sample-passed s n next cuts r after counted by step =
       let e = 3 * s in
       let past = 3 * (s + 1) in
       let px = point-of s 0 e (omega arith) (omega arith) in
@@ -140,9 +133,9 @@ module _ (sides : Sides) (grey : ℕ) (samples masks : List ℕ) where
       let pz = point-of s 2 (e + 2) (omega arith) (omega arith) in
       let two : e + 2 ≡ e + 1 + 1 = omega arith in
       let three : past ≡ e + 2 + 1 = omega arith in
-      let x = edge-passed e (e + 1) n r (bit (cuts .x) i) _ refl counted (by .along-x) px in
-      let y = edge-passed (e + 1) (e + 2) _ _ (bit (cuts .y) i) _ two (x .counted) (by .along-y) py in
-      let z = edge-passed (e + 2) past _ _ (bit (cuts .z) i) _ three (y .counted) (by .along-z) pz in
+      let x = edge-passed e (e + 1) n r (cuts .x) _ refl counted (by .along-x) px in
+      let y = edge-passed (e + 1) (e + 2) _ _ (cuts .y) _ two (x .counted) (by .along-y) py in
+      let z = edge-passed (e + 2) past _ _ (cuts .z) _ three (y .counted) (by .along-z) pz in
       rw (step .counted, step .placed) (advanced-on x (advanced-on y z))
 
   -- before the first edge

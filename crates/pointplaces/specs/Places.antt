@@ -4,7 +4,6 @@ use mathlib.Core.List.{List, map}
 use mathlib.Core.Bool.{true}
 use Prim.Native.Nat.{ℕ, _*_, _/_, _%_}
 use lib.ListN.{length}
-use Rattle.laws.specs.Bits.{bit}
 use Rattle.laws.specs.Range.{keepTo}
 use Rattle.grid.specs.Grid.{Size, axes, sampleCount, edgeCount, crossed}
 use Rattle.grid.specs.Point.{number}
@@ -15,19 +14,19 @@ use Rattle.rows.specs.Rows.{Ready, sizeOf, nextNumber}
 use Rattle.edgepoints.specs.declared.Point.{Point}
 use Rattle.edgepoints.specs.EdgePoint.{PointRooms, pointFrom, Placeable, withPlaced, placedFrom}
 
--- what it takes to place the points of the three edges that leave sample s, which is sample i of a stretch; the first of them is point n
-pub record SamplePlaceable (sides : Sides) (samples : List ℕ) (s n : ℕ) (cuts : Cuts) (i : ℕ) (r : PointRooms) : Type 0 where
-  pub along-x : bit (cuts .x) i ≡ true → Placeable (sizeOf sides) samples s 0 n r
-  pub along-y : bit (cuts .y) i ≡ true → Placeable (sizeOf sides) samples s 1 (nextNumber (bit (cuts .x) i) n) r
-  pub along-z : bit (cuts .z) i ≡ true → Placeable (sizeOf sides) samples s 2 (nextNumber (bit (cuts .y) i) (nextNumber (bit (cuts .x) i) n)) r
+-- what it takes to place the points of the three edges that leave a sample, the first of which is point n
+pub record SamplePlaceable (sides : Sides) (samples : List ℕ) (s n : ℕ) (cuts : Cuts) (r : PointRooms) : Type 0 where
+  pub along-x : cuts .x ≡ true → Placeable (sizeOf sides) samples s 0 n r
+  pub along-y : cuts .y ≡ true → Placeable (sizeOf sides) samples s 1 (nextNumber (cuts .x) n) r
+  pub along-z : cuts .z ≡ true → Placeable (sizeOf sides) samples s 2 (nextNumber (cuts .y) (nextNumber (cuts .x) n)) r
 
 -- the next number and the rooms past the three edges that leave a sample
-pub record SamplePlaced (sides : Sides) (grey : ℕ) (samples : List ℕ) (s n next : ℕ) (cuts : Cuts) (i : ℕ) (before after : PointRooms) : Type 0 where
-  pub counted : next ≡ nextNumber (bit (cuts .z) i) (nextNumber (bit (cuts .y) i) (nextNumber (bit (cuts .x) i) n))
+pub record SamplePlaced (sides : Sides) (grey : ℕ) (samples : List ℕ) (s n next : ℕ) (cuts : Cuts) (before after : PointRooms) : Type 0 where
+  pub counted : next ≡ nextNumber (cuts .z) (nextNumber (cuts .y) (nextNumber (cuts .x) n))
   pub placed : after
-      ≡ withPlaced (bit (cuts .z) i) (nextNumber (bit (cuts .y) i) (nextNumber (bit (cuts .x) i) n)) (pointFrom (sizeOf sides) grey samples s 2)
-      (withPlaced (bit (cuts .y) i) (nextNumber (bit (cuts .x) i) n) (pointFrom (sizeOf sides) grey samples s 1)
-      (withPlaced (bit (cuts .x) i) n (pointFrom (sizeOf sides) grey samples s 0) before))
+      ≡ withPlaced (cuts .z) (nextNumber (cuts .y) (nextNumber (cuts .x) n)) (pointFrom (sizeOf sides) grey samples s 2)
+      (withPlaced (cuts .y) (nextNumber (cuts .x) n) (pointFrom (sizeOf sides) grey samples s 1)
+      (withPlaced (cuts .x) n (pointFrom (sizeOf sides) grey samples s 0) before))
 
 -- the samples are the grid's, and the masks say which of them are above
 pub record Given (sides : Sides) (grey : ℕ) (samples masks : List ℕ) : Type 0 where

@@ -1,7 +1,6 @@
 // The points' places, grid edges and marks, written to the front of their rooms, stretch by stretch.
 ghost use mathlib.Core.Path.{_≡_};
 ghost use Prim.Native.Nat.{_+_, _*_, _<_};
-ghost use Rattle.laws.specs.Bits.{wordBits};
 ghost use Rattle.rows.specs.Rows.{Stands, ownSamples, layerFirst};
 ghost use Rattle.edgepoints.specs.EdgePoint.{pointRooms, Standing, RoomsFor};
 ghost use Rattle.pointplaces.specs.Places.{SamplePlaceable, SamplePlaced, Given, countBelow, countAll, Advanced};
@@ -10,12 +9,10 @@ use edgepoints::place_edge;
 use rows::Cuts;
 use rows::Sides;
 use rows::Stretch;
-use rows::is_set;
 
-// The points of the three edges that leave sample i of a stretch, from a number on. Answers the number after the last.
+// The points of the three edges that leave a sample, from a number on. Answers the number after the last.
 fn place_sample(
     cuts: Cuts,
-    i: u32,
     sides: Sides,
     grey: u16,
     at: Sample,
@@ -25,16 +22,14 @@ fn place_sample(
     edges: &mut [u32],
     marks: &mut [u8],
 ) -> usize
-    requires { ⌜ i < wordBits ⌝ }
     requires { ⌜ Standing sides at ⌝ }
-    requires { ⌜ SamplePlaceable sides (now samples) (at .s) from cuts i (pointRooms (now points) (now edges) (now marks)) ⌝ }
-    ensures { λ r. ⌜ SamplePlaced sides grey (now (samples .entry)) (at .s) from r cuts i
+    requires { ⌜ SamplePlaceable sides (now samples) (at .s) from cuts (pointRooms (now points) (now edges) (now marks)) ⌝ }
+    ensures { λ r. ⌜ SamplePlaced sides grey (now (samples .entry)) (at .s) from r cuts
         (pointRooms (now (points .entry)) (now (edges .entry)) (now (marks .entry)))
         (pointRooms (now (points .exit)) (now (edges .exit)) (now (marks .exit))) ⌝ }
 {
-    let cut_x = is_set(cuts.x, i);
     let n = place_edge(
-        cut_x,
+        cuts.x,
         0,
         sides,
         grey,
@@ -45,10 +40,8 @@ fn place_sample(
         edges,
         marks,
     );
-    let cut_y = is_set(cuts.y, i);
-    let n = place_edge(cut_y, 1, sides, grey, at, n, samples, points, edges, marks);
-    let cut_z = is_set(cuts.z, i);
-    place_edge(cut_z, 2, sides, grey, at, n, samples, points, edges, marks)
+    let n = place_edge(cuts.y, 1, sides, grey, at, n, samples, points, edges, marks);
+    place_edge(cuts.z, 2, sides, grey, at, n, samples, points, edges, marks)
 }
 
 // The points of a stretch's own samples, from a number on, at one busy sample after the other. Answers the number after the last.
@@ -74,9 +67,9 @@ fn place_stretch(
         (pointRooms (now (points .entry)) (now (edges .entry)) (now (marks .entry)))
         (pointRooms (now (points .exit)) (now (edges .exit)) (now (marks .exit))) ⌝ }
 {
-    let cuts = rows::cuts_at(sides, at, z, masks);
+    let crossed = rows::crossed_at(sides, at, z, masks);
     let before = sides.nx - at.left;
-    let mut busy = cuts.x | cuts.y | cuts.z;
+    let mut busy = crossed.x | crossed.y | crossed.z;
     let mut n = from;
     while busy != 0 {
         let i = u64::trailing_zeros(busy);
@@ -87,18 +80,8 @@ fn place_stretch(
             y: at.y,
             z,
         };
-        n = place_sample(
-            cuts,
-            i,
-            sides,
-            grey,
-            sample,
-            n,
-            samples,
-            points,
-            edges,
-            marks,
-        );
+        let cuts = crossed.cuts(i);
+        n = place_sample(cuts, sides, grey, sample, n, samples, points, edges, marks);
         busy = busy & (busy - 1);
     }
     n

@@ -12,6 +12,7 @@ use Rattle.grid.specs.Work.{size, SidesFit}
 use Rattle.masks.specs.Masks.{wordCubes, rowWords, lastSamples, maskAbove, Agreeing, AllSet}
 use Rattle.rows.specs.declared.Sides.{Sides}
 use Rattle.rows.specs.declared.Stretch.{Stretch}
+use Rattle.rows.specs.declared.Crossed.{Crossed}
 use Rattle.rows.specs.declared.Cuts.{Cuts}
 
 abbrev pub sizeOf : Sides → Size
@@ -82,10 +83,14 @@ nextStretch sides at = record {
 }
 
 -- bit i of each word says whether the edge that leaves sample s + i along its axis is crossed, for so many samples, and no other bit is set
-pub record CutWords (sides : Sides) (masks : List ℕ) (s many : ℕ) (cuts : Cuts) : Type 0 where
-  pub along-x : (i : ℕ) → bit (cuts .x) i ≡ (ltb i many && cut sides masks (3 * (s + i)))
-  pub along-y : (i : ℕ) → bit (cuts .y) i ≡ (ltb i many && cut sides masks (3 * (s + i) + 1))
-  pub along-z : (i : ℕ) → bit (cuts .z) i ≡ (ltb i many && cut sides masks (3 * (s + i) + 2))
+pub record CutWords (sides : Sides) (masks : List ℕ) (s many : ℕ) (c : Crossed) : Type 0 where
+  pub along-x : (i : ℕ) → bit (c .x) i ≡ (ltb i many && cut sides masks (3 * (s + i)))
+  pub along-y : (i : ℕ) → bit (c .y) i ≡ (ltb i many && cut sides masks (3 * (s + i) + 1))
+  pub along-z : (i : ℕ) → bit (c .z) i ≡ (ltb i many && cut sides masks (3 * (s + i) + 2))
+
+-- the crossed edges of sample i
+abbrev pub cutsAt : Crossed → ℕ → Cuts
+cutsAt c i = record { x = bit (c .x) i; y = bit (c .y) i; z = bit (c .z) i }
 
 -- the next number past an edge, which counts where the edge is crossed
 abbrev pub nextNumber : Bool → ℕ → ℕ

@@ -3,10 +3,10 @@ ghost use mathlib.Core.Path.{_≡_};
 ghost use mathlib.Core.Bool.{true, cond};
 ghost use Prim.Native.Nat.{_<_};
 ghost use lib.ListN.{length, getD};
-ghost use Rattle.laws.specs.Bits.{wordBits, bit};
+ghost use Rattle.laws.specs.Bits.{wordBits};
 ghost use Rattle.grid.specs.Work.{SidesFit};
 ghost use Rattle.masks.specs.Masks.{rowWords};
-ghost use Rattle.rows.specs.Rows.{Ready, Stands, Addable, firstStretch, nextStretch, ownSamples, cubesMask, samplesMask, CutWords};
+ghost use Rattle.rows.specs.Rows.{Ready, Stands, Addable, firstStretch, nextStretch, ownSamples, cubesMask, samplesMask, CutWords, cutsAt};
 use masks::WORD_CUBES;
 use masks::WORD_SAMPLES;
 
@@ -31,10 +31,31 @@ pub struct Stretch {
 }
 
 // For each axis a word with a bit set where the edge that leaves a sample of a stretch along the axis is crossed.
-pub struct Cuts {
+pub struct Crossed {
     pub x: u64,
     pub y: u64,
     pub z: u64,
+}
+
+// Which of the three edges that leave a sample are crossed.
+pub struct Cuts {
+    pub x: bool,
+    pub y: bool,
+    pub z: bool,
+}
+
+impl Crossed {
+    // The crossed edges of one sample of the stretch.
+    pub fn cuts(self, i: u32) -> Cuts
+        requires { ⌜ i < wordBits ⌝ }
+        ensures { λ r. ⌜ r ≡ cutsAt self i ⌝ }
+    {
+        Cuts {
+            x: (self.x >> i) % 2 == 1,
+            y: (self.y >> i) % 2 == 1,
+            z: (self.z >> i) % 2 == 1,
+        }
+    }
 }
 
 // The first stretch of a layer.
@@ -106,7 +127,7 @@ fn neighbour(there: bool, word: usize, here: u64, masks: &[u64]) -> u64
 }
 
 // The crossed edges of a stretch's own samples.
-pub fn cuts_at(sides: Sides, at: Stretch, z: usize, masks: &[u64]) -> Cuts
+pub fn crossed_at(sides: Sides, at: Stretch, z: usize, masks: &[u64]) -> Crossed
     requires { ⌜ Ready sides (now masks) ⌝ }
     requires { ⌜ Stands sides z at ⌝ }
     requires { ⌜ at .y < sides .ny ⌝ }
@@ -118,17 +139,9 @@ pub fn cuts_at(sides: Sides, at: Stretch, z: usize, masks: &[u64]) -> Cuts
     let behind = neighbour(at.y + 1 < sides.ny, word + sides.words, here, masks);
     let over = neighbour(z + 1 < sides.nz, word + sides.words * sides.ny, here, masks);
     let own = samples_mask(sides, at.left);
-    Cuts {
+    Crossed {
         x: (here ^ (here / 2)) & cubes_mask(sides, at.left),
         y: (here ^ behind) & own,
         z: (here ^ over) & own,
     }
-}
-
-// Is a bit of a word set?
-pub fn is_set(word: u64, i: u32) -> bool
-    requires { ⌜ i < wordBits ⌝ }
-    ensures { λ r. ⌜ r ≡ bit word i ⌝ }
-{
-    (word >> i) % 2 == 1
 }

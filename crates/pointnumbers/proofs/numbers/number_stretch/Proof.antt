@@ -17,36 +17,36 @@ use Rattle.pointnumbers.proofs.numbers.number_stretch.Statement.{statem
 use Rattle.pointnumbers.proofs.numbers.number_stretch.Tie as tie
 
 abbrev Inv-loop : tie.InvT-loop
-Inv-loop at z from masks work₀ cuts busy₀ n₀ work busy n = Walked masks (at .s) (ownSamples (at .left)) cuts from work₀ busy n work
+Inv-loop at z from masks work₀ crossed busy₀ n₀ work busy n = Walked masks (at .s) (ownSamples (at .left)) crossed from work₀ busy n work
 
 abbrev μ-loop : tie.MeasureT-loop
-μ-loop at z from masks work₀ cuts busy₀ n₀ work busy n = busy
+μ-loop at z from masks work₀ crossed busy₀ n₀ work busy n = busy
 
 abbrev start : tie.At-loop Inv-loop μ-loop → tie.Start Inv-loop μ-loop
 start l = l .before .before .before .before .before .before
 
-cuts-at-requires : tie.Need-cuts-at-requires Inv-loop μ-loop
-cuts-at-requires c κs =
+crossed-at-requires : tie.Need-crossed-at-requires Inv-loop μ-loop
+crossed-at-requires c κs =
     let s = c .before .before in
     (s .pre .0, (s .pre .1 .0, (s .pre .1 .1 .0, s .pre .1 .1 .1 .0)))
 
 loop-holds : tie.Need-loop-holds Inv-loop μ-loop
 loop-holds c =
     let fits = c .struct-known2 .given in
-    let cuts = c .before .before .cuts-at .result in
+    let crossed = c .before .before .crossed-at .result in
     let a = c .before .before .before .before .before .args in
-    walk-first (a .masks .now) (a .at .s) (ownSamples (a .at .left)) cuts (a .from) (a .work .now)
-    (busy-small cuts (omega (arith, fits)) (omega (arith, fits)) (omega (arith, fits)))
+    walk-first (a .masks .now) (a .at .s) (ownSamples (a .at .left)) crossed (a .from) (a .work .now)
+    (busy-small crossed (omega (arith, fits)) (omega (arith, fits)) (omega (arith, fits)))
 
 -- the next busy sample
 found-next : (c : tie.In-loop Inv-loop μ-loop)
     → let l = c .before in
     let a = start l .args in
-    Found (a .sides) (a .masks .now) (a .at .s) (ownSamples (a .at .left)) (busyOf (l .before .before .before .cuts-at .result)) (l .loop .inv .x) (l .loop .busy)
+    Found (a .sides) (a .masks .now) (a .at .s) (ownSamples (a .at .left)) (busyOf (l .before .before .before .crossed-at .result)) (l .loop .inv .x) (l .loop .busy)
     (trailingZeros wordBits (l .loop .busy))
 found-next c =
     let l = c .before in
-    next-busy _ _ _ _ _ _ _ _ _ (l .loop .inv) (start l .args .sides) (l .before .before .before .cuts-at .ensures) (c .loop-test .taken)
+    next-busy _ _ _ _ _ _ _ _ _ (l .loop .inv) (start l .args .sides) (l .before .before .before .crossed-at .ensures) (c .loop-test .taken)
 
 -- the edges before it are numbered
 numbered-there : (c : tie.In-loop Inv-loop μ-loop)
@@ -56,7 +56,7 @@ numbered-there : (c : tie.In-loop Inv-loop μ-loop)
 numbered-there c =
     let l = c .before in
     let s = start l in
-    walk-to _ _ _ _ _ _ _ _ _ (l .loop .inv) (s .args .sides) (l .before .before .before .cuts-at .ensures) (s .pre .1 .1 .1 .1) (c .loop-test .taken)
+    walk-to _ _ _ _ _ _ _ _ _ (l .loop .inv) (s .args .sides) (l .before .before .before .crossed-at .ensures) (s .pre .1 .1 .1 .1) (c .loop-test .taken)
 
 -- its own are edges of the grid
 edges-there : (c : tie.In-loop Inv-loop μ-loop)
@@ -85,32 +85,37 @@ add-e c = omega (arith, edges-there (c .before), few (start (c .before .before))
 mul-e : tie.Need-mul-e Inv-loop μ-loop
 mul-e c = omega (arith, edges-there (c .before), few (start (c .before .before)))
 
+cuts-requires : tie.Need-cuts-requires Inv-loop μ-loop
+cuts-requires c κs = found-next (c .before) .small
+
 number-sample-requires : tie.Need-number-sample-requires Inv-loop μ-loop
 number-sample-requires c κs =
-    let t = c .before .before in
+    let t = c .before .before .before in
     let s = start (t .before) in
     let so = numbered-there t in
-    (found-next t .small, (numbers-few (s .args .sides) (s .args .masks .now) _ _ _ so, (omega (arith, so .whole, edges-there t), omega (arith, so .whole, few s))))
+    (numbers-few (s .args .sides) (s .args .masks .now) _ _ _ so, (omega (arith, so .whole, edges-there t), omega (arith, so .whole, few s)))
 
 sub-busy : tie.Need-sub-busy Inv-loop μ-loop
 sub-busy c = omega arith
 
 loop-less : tie.Need-loop-less Inv-loop μ-loop
-loop-less c = found-next (c .before .before .before .before .before) .falls
+loop-less c = found-next (c .before .before .before .before .before .before) .falls
 
 loop-again : tie.Need-loop-again Inv-loop μ-loop
 loop-again c =
-    let t = c .before .before .before .before .before in
+    let t = c .before .before .before .before .before .before in
     let l = t .before in
-    walk-on _ _ _ _ _ _ _ _ _ (l .loop .inv) (start l .args .sides) (l .before .before .before .cuts-at .ensures) (t .loop-test .taken) _ _
+    walk-on _ _ _ _ _ _ _ _ _ (l .loop .inv) (start l .args .sides) (l .before .before .before .crossed-at .ensures) (t .loop-test .taken) _ _
     (omega (arith, numbered-there t .whole, edges-there t))
+    (c .before .before .before .before .cuts .result)
+    (c .before .before .before .before .cuts .ensures)
     (c .before .before .number-sample .ensures)
 
 returns : tie.Need-returns Inv-loop μ-loop
 returns c =
     let l = c .before in
     let s = start l in
-    walk-last _ _ _ _ _ _ _ _ _ (l .loop .inv) (s .args .sides) (l .before .before .before .cuts-at .ensures) (s .pre .1 .1 .1 .1) (c .loop-test .left)
+    walk-last _ _ _ _ _ _ _ _ _ (l .loop .inv) (s .args .sides) (l .before .before .before .crossed-at .ensures) (s .pre .1 .1 .1 .1) (c .loop-test .left)
 
 same-length : tie.Need-same-length Inv-loop μ-loop
 same-length c = returns c .whole ∙ sym (start (c .before) .pre .1 .1 .1 .1 .whole)
@@ -121,11 +126,12 @@ number-stretch-spec =
     (tie.spec
     Inv-loop
     μ-loop
-    cuts-at-requires
+    crossed-at-requires
     loop-holds
     cast-e
     add-e
     mul-e
+    cuts-requires
     number-sample-requires
     sub-busy
     loop-less

@@ -11,29 +11,29 @@ use Rattle.rows.specs.Rows.{firstX, ownSamples}
 use Rattle.edgepoints.specs.EdgePoint.{PointRooms, pointRooms}
 use Rattle.pointplaces.specs.Places.{countAll, Advanced}
 use Rattle.rows.proofs.Stretches.{first-x, own-most, sample-is, stretch-small}
-use Rattle.rows.proofs.Busy.{busyOf, busy-small, tested, Found, found, rest-uncut}
-use Rattle.pointplaces.proofs.Placing.{SameLengths, BitsTested, room-kept, samples-passed, advanced-none, advanced-on, sample-passed}
+use Rattle.rows.proofs.Busy.{busyOf, busy-small, Tested, tested, Found, found, rest-uncut}
+use Rattle.pointplaces.proofs.Placing.{SameLengths, room-kept, samples-passed, advanced-none, advanced-on, sample-passed}
 use Rattle.pointplaces.proofs.Ends.{sample-placeable}
 use Rattle.pointplaces.proofs.places.place_stretch.Statement.{statement}
 use Rattle.pointplaces.proofs.places.place_stretch.Tie as tie
 
 abbrev Inv-loop : tie.InvT-loop
-Inv-loop sides grey at z from samples masks points₀ edges₀ marks₀ cuts before busy₀ n₀ points edges marks busy n = (x : ℕ)
+Inv-loop sides grey at z from samples masks points₀ edges₀ marks₀ crossed before busy₀ n₀ points edges marks busy n = (x : ℕ)
     × (x ≤ ownSamples (at .left))
     × (busy < 2 ^ 64)
-    × Left (busyOf cuts) x busy
+    × Left (busyOf crossed) x busy
     × SameLengths (pointRooms points₀ edges₀ marks₀) (pointRooms points edges marks)
     × Advanced sides grey samples masks (3 * at .s) (3 * (at .s + x)) n (pointRooms points₀ edges₀ marks₀) (pointRooms points edges marks)
 
 abbrev μ-loop : tie.MeasureT-loop
-μ-loop sides grey at z from samples masks points₀ edges₀ marks₀ cuts before busy₀ n₀ points edges marks busy n = busy
+μ-loop sides grey at z from samples masks points₀ edges₀ marks₀ crossed before busy₀ n₀ points edges marks busy n = busy
 
--- the start, from the call of `cuts_at`, and this call, from the loop's head
-abbrev start : tie.After-cuts-at Inv-loop μ-loop → tie.Start Inv-loop μ-loop
+-- the start, from the call of `crossed_at`, and this call, from the loop's head
+abbrev start : tie.After-crossed-at Inv-loop μ-loop → tie.Start Inv-loop μ-loop
 start c = c .before .before .before .before .before .before
 
-abbrev cuts-of : tie.At-loop Inv-loop μ-loop → tie.After-cuts-at Inv-loop μ-loop
-cuts-of l = l .before .before .before .before .before
+abbrev crossed-of : tie.At-loop Inv-loop μ-loop → tie.After-crossed-at Inv-loop μ-loop
+crossed-of l = l .before .before .before .before .before
 
 -- the rooms as they come, at the loop's head, and past a sample
 abbrev first-rooms : tie.Start Inv-loop μ-loop → PointRooms
@@ -44,11 +44,11 @@ loop-rooms l = pointRooms (l .loop .points) (l .loop .edges) (l .loop .marks)
 
 abbrev past-sample : tie.After-place-sample Inv-loop μ-loop → PointRooms
 past-sample c =
-    let last = c .place-sample .last .1 .1 .1 .1 .1 .1 .1 in
+    let last = c .place-sample .last .1 .1 .1 .1 .1 .1 in
     pointRooms (last .0) (last .1 .0) (last .1 .1 .0)
 
-cuts-at-requires : tie.Need-cuts-at-requires Inv-loop μ-loop
-cuts-at-requires c κs =
+crossed-at-requires : tie.Need-crossed-at-requires Inv-loop μ-loop
+crossed-at-requires c κs =
     let pre = c .before .before .before .before .before .pre in
     (pre .0 .ready, (pre .1 .0, (pre .1 .1 .0, pre .1 .1 .1 .0)))
 
@@ -64,8 +64,8 @@ loop-holds c =
     let none : 3 * (a .at .s + 0) ≡ 3 * a .at .s = omega arith in (
       0,
       omega arith,
-      busy-small (q .cuts-at .result) (omega (arith, words)) (omega (arith, words)) (omega (arith, words)),
-      left-all (busyOf (q .cuts-at .result)),
+      busy-small (q .crossed-at .result) (omega (arith, words)) (omega (arith, words)) (omega (arith, words)),
+      left-all (busyOf (q .crossed-at .result)),
       record { points = refl; edges = refl; marks = refl },
       rw none (advanced-none (a .sides) (a .grey) (now (a .samples)) (now (a .masks)) (3 * a .at .s) (a .from) (first-rooms s) (s .pre .1 .1 .1 .1 .1)),
     )
@@ -76,14 +76,14 @@ found-at l = trailingZeros wordBits (l .loop .busy)
 
 next-busy : (c : tie.In-loop Inv-loop μ-loop)
     → let l = c .before in
-    let q = cuts-of l in
+    let q = crossed-of l in
     let a = start q .args in
-    Found (a .sides) (now (a .masks)) (a .at .s) (ownSamples (a .at .left)) (busyOf (q .cuts-at .result)) (l .loop .inv .0) (l .loop .busy) (found-at l)
+    Found (a .sides) (now (a .masks)) (a .at .s) (ownSamples (a .at .left)) (busyOf (q .crossed-at .result)) (l .loop .inv .0) (l .loop .busy) (found-at l)
 next-busy c =
     let l = c .before in
-    let q = cuts-of l in
+    let q = crossed-of l in
     let a = start q .args in
-    found (a .sides) (now (a .masks)) (a .at .s) (ownSamples (a .at .left)) (q .cuts-at .result) (q .cuts-at .ensures)
+    found (a .sides) (now (a .masks)) (a .at .s) (ownSamples (a .at .left)) (q .crossed-at .result) (q .crossed-at .ensures)
     (l .loop .inv .0)
     (l .loop .busy)
     (l .loop .inv .3)
@@ -92,49 +92,53 @@ next-busy c =
 
 placed-there : (c : tie.In-loop Inv-loop μ-loop)
     → let l = c .before in
-    let s = start (cuts-of l) in
+    let s = start (crossed-of l) in
     let a = s .args in
     Advanced (a .sides) (a .grey) (now (a .samples)) (now (a .masks)) (3 * a .at .s) (3 * (a .at .s + found-at l)) (l .loop .n) (first-rooms s) (loop-rooms l)
 placed-there c =
     let l = c .before in
-    let s = start (cuts-of l) in
+    let s = start (crossed-of l) in
     let a = s .args in
     samples-passed (a .sides) (a .grey) (now (a .samples)) (now (a .masks)) (3 * a .at .s) (a .at .s) (l .loop .inv .0) (found-at l) (l .loop .n) (first-rooms s) (loop-rooms l)
     (next-busy c .from)
     (l .loop .inv .5)
     (next-busy c .uncut)
 
--- its edges are crossed as the bits say
-bits-tested : (c : tie.In-loop Inv-loop μ-loop)
-    → let l = c .before in
-    let q = cuts-of l in
+-- its edges are crossed as the tests say
+cuts-tested : (c : tie.After-cuts Inv-loop μ-loop)
+    → let l = c .before .before .before in
+    let a = start (crossed-of l) .args in
+    Tested (a .sides) (now (a .masks)) (3 * (a .at .s + found-at l)) (c .cuts .result)
+cuts-tested c =
+    let t = c .before .before in
+    let q = crossed-of (t .before) in
     let a = start q .args in
-    BitsTested (a .sides) (now (a .masks)) (a .at .s + found-at l) (q .cuts-at .result) (found-at l)
-bits-tested c =
-    let q = cuts-of (c .before) in
-    let a = start q .args in
-    tested (a .sides) (now (a .masks)) (a .at .s) (ownSamples (a .at .left)) (q .cuts-at .result) (q .cuts-at .ensures) (found-at (c .before)) (next-busy c .there)
+    rw (c .cuts .ensures)
+    (tested (a .sides) (now (a .masks)) (a .at .s) (ownSamples (a .at .left)) (q .crossed-at .result) (q .crossed-at .ensures) (found-at (t .before)) (next-busy t .there))
 
 cast-along : tie.Need-cast-along Inv-loop μ-loop
 cast-along c = omega (arith, next-busy c .small)
 
-add-t20 : tie.Need-add-t20 Inv-loop μ-loop
-add-t20 c =
-    let t = c .before in
-    let s = start (cuts-of (t .before)) in
-    omega (arith, next-busy t .small, stretch-small (s .args .sides) (s .args .z) (s .args .at) (s .pre .1 .0) (s .pre .1 .1 .0) (s .pre .1 .1 .1 .0) (s .pre .0 .ready .fit) .s)
-
 add-t21 : tie.Need-add-t21 Inv-loop μ-loop
 add-t21 c =
     let t = c .before in
-    omega (arith, next-busy t .small, start (cuts-of (t .before)) .pre .0 .ready .fit .most-x)
+    let s = start (crossed-of (t .before)) in
+    omega (arith, next-busy t .small, stretch-small (s .args .sides) (s .args .z) (s .args .at) (s .pre .1 .0) (s .pre .1 .1 .0) (s .pre .1 .1 .1 .0) (s .pre .0 .ready .fit) .s)
+
+add-t22 : tie.Need-add-t22 Inv-loop μ-loop
+add-t22 c =
+    let t = c .before in
+    omega (arith, next-busy t .small, start (crossed-of (t .before)) .pre .0 .ready .fit .most-x)
+
+cuts-requires : tie.Need-cuts-requires Inv-loop μ-loop
+cuts-requires c κs = next-busy (c .before) .small
 
 place-sample-requires : tie.Need-place-sample-requires Inv-loop μ-loop
 place-sample-requires c κs =
-    let t = c .before .before .before .before in
+    let cuts = c .before .before .before in
+    let t = cuts .before .before in
     let l = t .before in
-    let q = cuts-of l in
-    let s = start q in
+    let s = start (crossed-of l) in
     let a = s .args in
     let stands = s .pre .1 .0 in
     let x = firstX (a .sides) (a .at) + found-at l in
@@ -142,44 +146,40 @@ place-sample-requires c κs =
     let site : a .at .s + found-at l ≡ x + a .sides .nx * (a .at .y + a .sides .ny * a .z)
     = omega (arith, first-x (a .sides) (a .z) (a .at) stands, sample-is (a .sides) (a .z) (a .at) stands (found-at l)) in
     let fits = room-kept (countAll (a .sides) (now (a .masks))) (first-rooms s) (loop-rooms l) (l .loop .inv .4) (s .pre .1 .1 .1 .1 .0) in (
-      next-busy t .small,
-      (
-        record { fit = s .pre .0 .ready .fit; below-x = inside; below-y = s .pre .1 .1 .0; below-z = s .pre .1 .1 .1 .0; site = site },
-        sample-placeable (a .sides) (a .grey) (now (a .samples)) (now (a .masks)) (s .pre .0) x (a .at .y) (a .z) inside (s .pre .1 .1 .0) (s .pre .1 .1 .1 .0)
-            (a .at .s + found-at l)
-            (l .loop .n)
-            (q .cuts-at .result)
-            (found-at l)
-            (loop-rooms l)
-            site
-            (placed-there t .counted)
-            (bits-tested t)
-            fits,
-      ),
+      record { fit = s .pre .0 .ready .fit; below-x = inside; below-y = s .pre .1 .1 .0; below-z = s .pre .1 .1 .1 .0; site = site },
+      sample-placeable (a .sides) (a .grey) (now (a .samples)) (now (a .masks)) (s .pre .0) x (a .at .y) (a .z) inside (s .pre .1 .1 .0) (s .pre .1 .1 .1 .0)
+          (a .at .s + found-at l)
+          (l .loop .n)
+          (cuts .cuts .result)
+          (loop-rooms l)
+          site
+          (placed-there t .counted)
+          (cuts-tested cuts)
+          fits,
     )
 
 sub-busy : tie.Need-sub-busy Inv-loop μ-loop
-sub-busy c = omega (arith, c .before .before .before .before .before .before .before .before .before .before .before .loop-test .taken)
+sub-busy c = omega (arith, c .before .before .before .before .before .before .before .before .before .before .before .before .loop-test .taken)
 
 loop-less : tie.Need-loop-less Inv-loop μ-loop
-loop-less c = next-busy (c .before .before .before .before .before .before .before .before .before .before .before) .falls
+loop-less c = next-busy (c .before .before .before .before .before .before .before .before .before .before .before .before) .falls
 
 loop-again : tie.Need-loop-again Inv-loop μ-loop
 loop-again c =
     let done = c .before .before .before .before .before .before in
-    let kept = done .place-sample .kept .1 .1 .1 .1 .1 .1 .1 in
-    let t = done .before .before .before .before .before in
+    let kept = done .place-sample .kept .1 .1 .1 .1 .1 .1 in
+    let cuts = done .before .before .before .before in
+    let t = cuts .before .before in
     let l = t .before in
-    let q = cuts-of l in
-    let a = start q .args in
+    let a = start (crossed-of l) .args in
     let same = l .loop .inv .4 in
     let past : 3 * (a .at .s + (found-at l + 1)) ≡ 3 * (a .at .s + found-at l + 1) = omega arith in
     let here =
-    sample-passed (a .sides) (a .grey) (now (a .samples)) (now (a .masks)) (a .at .s + found-at l) (l .loop .n) (done .place-sample .result) (q .cuts-at .result) (found-at l)
+    sample-passed (a .sides) (a .grey) (now (a .samples)) (now (a .masks)) (a .at .s + found-at l) (l .loop .n) (done .place-sample .result) (cuts .cuts .result)
     (loop-rooms l)
     (past-sample done)
     (placed-there t .counted)
-    (bits-tested t)
+    (cuts-tested cuts)
     (done .place-sample .ensures) in (
       found-at l + 1,
       omega (arith, next-busy t .there),
@@ -201,14 +201,14 @@ same-length-3 c = c .before .loop .inv .4 .marks
 returns : tie.Need-returns Inv-loop μ-loop
 returns c =
     let l = c .before in
-    let q = cuts-of l in
+    let q = crossed-of l in
     let s = start q in
     let a = s .args in
     let own = ownSamples (a .at .left) in
     samples-passed (a .sides) (a .grey) (now (a .samples)) (now (a .masks)) (3 * a .at .s) (a .at .s) (l .loop .inv .0) own (l .loop .n) (first-rooms s) (loop-rooms l)
     (l .loop .inv .1)
     (l .loop .inv .5)
-    (rest-uncut (a .sides) (now (a .masks)) (a .at .s) own (q .cuts-at .result) (q .cuts-at .ensures) (l .loop .inv .0) (l .loop .busy) (l .loop .inv .3) (c .loop-test .left))
+    (rest-uncut (a .sides) (now (a .masks)) (a .at .s) own (q .crossed-at .result) (q .crossed-at .ensures) (l .loop .inv .0) (l .loop .busy) (l .loop .inv .3) (c .loop-test .left))
 
 pub place-stretch-spec : {M : Type 1} → statement M
 place-stretch-spec =
@@ -216,12 +216,13 @@ place-stretch-spec =
     (tie.spec
     Inv-loop
     μ-loop
-    cuts-at-requires
+    crossed-at-requires
     sub-before
     loop-holds
     cast-along
-    add-t20
     add-t21
+    add-t22
+    cuts-requires
     place-sample-requires
     sub-busy
     loop-less

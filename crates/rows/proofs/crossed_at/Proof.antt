@@ -1,4 +1,4 @@
--- `rows::cuts_at` meets its contract: the law of its words. A stretch of the grid has its word, and so have its neighbours where they are there. Assumes nothing.
+-- `rows::crossed_at` meets its contract: the law of its words. A stretch of the grid has its word, and so have its neighbours where they are there. Assumes nothing.
 use mathlib.Core.Path.{_≡_}
 use Prim.Native.Nat.{ℕ, _+_, _*_, _<_, _≤_}
 use native.Mathlib.Nat.{mul-le-mul-left}
@@ -10,8 +10,8 @@ use Rattle.laws.proofs.Digits.{block-end}
 use Rattle.masks.specs.Masks.{rowWords, mostWords}
 use Rattle.rows.proofs.Stretches.{words-most, word-in, row-there, behind-is, over-is, behind-there, over-there}
 use Rattle.rows.proofs.Cut.{cut-words}
-use Rattle.rows.proofs.cuts_at.Statement.{statement}
-use Rattle.rows.proofs.cuts_at.Tie as tie
+use Rattle.rows.proofs.crossed_at.Statement.{statement}
+use Rattle.rows.proofs.crossed_at.Tie as tie
 
 -- the stretch's word in a row of the grid is among the words
 among : (s : tie.Start) (r : ℕ) → r < s .args .sides .ny * s .args .sides .nz → {word : ℕ} → word ≡ s .pre .1 .0 .past + s .args .sides .words * r → word < length (s .args .masks .now)
@@ -77,8 +77,8 @@ returns c =
     rw (c .cubes-mask .ensures, c .before .samples-mask .ensures, c .before .before .neighbour2 .ensures, c .before .before .before .before .before .neighbour .ensures)
     (cut-words (a .sides) (a .masks .now) (s .pre .0) (a .z) (a .at) (s .pre .1 .0) (s .pre .1 .1 .0) (s .pre .1 .1 .1))
 
-pub cuts-at-spec : {M : Type 1} → statement M
-cuts-at-spec =
+pub crossed-at-spec : {M : Type 1} → statement M
+crossed-at-spec =
     tie.close
     (tie.spec
     mul-here
