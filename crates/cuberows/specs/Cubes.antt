@@ -26,6 +26,7 @@ cornersAt masks words ny word = record {
 abbrev pub readCase : Corners → ℕ → ℕ
 readCase m i = m .m00 / 2 ^ i % 4 + 4 * (m .m10 / 2 ^ i % 4) + 2 ^ 4 * (m .m01 / 2 ^ i % 4 + 4 * (m .m11 / 2 ^ i % 4))
 
+-- the same, opened only where its bits matter
 unfoldable pub wordCase : Corners → ℕ → ℕ
 wordCase m i = readCase m i
 

@@ -1,6 +1,6 @@
 -- A word whose set bits are passed from the lowest up: as many zeros as stand below the lowest say which it is, and it is cleared.
 use mathlib.Core.Path.{_≡_, refl, ap, sym, _∙_}
-use mathlib.Core.Bool.{Bool, true, false, _&&_, and-false}
+use mathlib.Core.Bool.{true, false, _&&_, and-self, and-false}
 use Prim.Native.Nat.{ℕ, zero, suc, _+_, _-_, _/_, _%_, _^_, _<_, _≤_}
 use native.Mathlib.Decide.{decLt}
 use native.Mathlib.Nat.{mod-lt, pow-suc, pow-zero}
@@ -8,7 +8,7 @@ use native.Mathlib.Omega.{arith}
 use borrow.Author.Tests.{le-leb, lt-leb, leb-true}
 use lib.Bits.{bitAnd, and-le-r}
 use lib.Count.{trailingZeros, under}
-use lib.Dec.{eqb, leb, lit<}
+use lib.Dec.{eqb, leb, leb·zero, lit<}
 use Rattle.laws.specs.Bits.{bit}
 use Rattle.laws.proofs.Halves.{bit-of-zero}
 use Rattle.laws.proofs.Tests.{both}
@@ -49,7 +49,7 @@ abbrev pub Left : ℕ → ℕ → ℕ → Type 0
 Left word x rest = (i : ℕ) → bit rest i ≡ (leb x i && bit word i)
 
 pub left-all : (word : ℕ) → Left word 0 word
-left-all word i = rw (le-leb 0 i (omega arith))
+left-all word i = rw (leb·zero i)
 
 -- where nothing is left, none is set from x on
 pub none-left : (word x rest : ℕ) → Left word x rest → rest ≡ 0 → (i : ℕ) → x ≤ i → bit word i ≡ false
@@ -70,10 +70,9 @@ module _ (width word x rest : ℕ) (left : Left word x rest) where
 
   pub next-bit : rest < 2 ^ width → (rest ≡ 0 → ⊥) → NextBit width word x rest t
   next-bit h some =
-      let found = both (leb x t) (bit word t) (sym (left t) ∙ bit-lowest width rest h some) in
       record {
         small = lowest-small width rest h some;
-        from = leb-true x t (found .0);
+        from = from;
         set = found .1;
         quiet = λ i l u. ap (λ b. b && bit word i) (sym (le-leb x i l)) ∙ sym (left i) ∙ bit-below width rest i u;
         left = λ i. bit-and rest (rest - 1) i ∙ cleared i (decLt t i) (decLt i t);
@@ -83,14 +82,15 @@ module _ (width word x rest : ℕ) (left : Left word x rest) where
       after : Below rest t
       after = below-one width rest h some
 
-      twice : (b : Bool) → (b && b) ≡ b
-      twice true = refl
-      twice false = refl
+      found : (leb x t ≡ true) × (bit word t ≡ true)
+      found = both (leb x t) (bit word t) (sym (left t) ∙ bit-lowest width rest h some)
+
+      from : x ≤ t
+      from = leb-true x t (found .0)
 
       cleared : (i : ℕ) → Dec (t < i) → Dec (i < t) → (bit rest i && bit (rest - 1) i) ≡ (leb (t + 1) i && bit word i)
       cleared i (yes past) before =
-          let from : x ≤ t = leb-true x t (both (leb x t) (bit word t) (sym (left t) ∙ bit-lowest width rest h some) .0) in
-          rw (after .1 i past, twice (bit rest i), left i, le-leb x i (omega arith), le-leb (t + 1) i (omega arith))
+          rw (after .1 i past, and-self (bit rest i), left i, le-leb x i (omega (arith, from)), le-leb (t + 1) i (omega arith))
       cleared i (no not-past) (yes before) = rw (bit-below width rest i before, lt-leb (t + 1) i (omega arith))
       cleared i (no not-past) (no not-before) =
           let q : i ≡ t = omega arith in

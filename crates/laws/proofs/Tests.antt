@@ -110,6 +110,12 @@ alike true false h = h
 alike false true h = sym h
 alike false false h = refl
 
+-- a test does not differ from itself
+pub same-ends : (b : Bool) → xor b b ≡ false
+unfolding xor
+same-ends true = refl
+same-ends false = refl
+
 -- a test that counts nothing fails
 pub is-none : (b : Bool) → one-if b ≡ 0 → b ≡ false
 is-none true h = absurd (omega arith)

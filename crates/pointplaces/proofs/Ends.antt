@@ -9,7 +9,7 @@ use lib.Dec.{leb, ltb}
 use lib.ListN.{getD}
 use borrow.Author.Tests.{ltb-true}
 use Rattle.laws.specs.Range.{one-if}
-use Rattle.laws.proofs.Tests.{both}
+use Rattle.laws.proofs.Tests.{both, same-ends}
 use Rattle.laws.proofs.Keep.{rank-lt}
 use Rattle.grid.specs.Grid.{site, axes, sampleCount, edgeCount, isAboveGrey}
 use Rattle.grid.specs.Point.{number}
@@ -21,8 +21,7 @@ use Rattle.rows.specs.Rows.{sizeOf, cut, nextNumber}
 use Rattle.edgepoints.specs.EdgePoint.{PointRooms, RoomsFor, stepOf, Placeable}
 use Rattle.pointplaces.specs.Places.{SamplePlaceable, Given, countBelow, countAll}
 use Rattle.masks.proofs.Above.{told-above}
-use Rattle.rows.proofs.Stretches.{sample-small}
-use Rattle.rows.proofs.Cut.{same-ends}
+use Rattle.grid.proofs.Sites.{site-small}
 use Rattle.rows.proofs.Busy.{Tested}
 use Rattle.pointplaces.proofs.Placing.{count-next-edge}
 
@@ -70,20 +69,24 @@ module _ (sides : Sides) (grey : ℕ) (samples masks : List ℕ) (given : Given 
     s = x + sides .nx * (y + sides .ny * z)
 
     small : s < sampleCount (sizeOf sides)
-    small = sample-small sides y z hy hz x hx
+    unfolding site
+    small = site-small (sizeOf sides) x y z hx hy hz
 
     past-x : ltb (x + 1) (sides .nx) ≡ true → s + 1 < sampleCount (sizeOf sides)
-    past-x h = omega (arith, sample-small sides y z hy hz (x + 1) (ltb-true _ _ h))
+    unfolding site
+    past-x h = omega (arith, site-small (sizeOf sides) (x + 1) y z (ltb-true _ _ h) hy hz)
 
     past-y : ltb (y + 1) (sides .ny) ≡ true → s + sides .nx < sampleCount (sizeOf sides)
+    unfolding site
     past-y h =
         let q : y + 1 + sides .ny * z ≡ y + sides .ny * z + 1 = omega arith in
-        omega (arith, rw q at (sample-small sides (y + 1) z (ltb-true _ _ h) hz x hx), mul-add (sides .nx) (y + sides .ny * z) 1, mul-one (sides .nx))
+        omega (arith, rw q at (site-small (sizeOf sides) x (y + 1) z hx (ltb-true _ _ h) hz), mul-add (sides .nx) (y + sides .ny * z) 1, mul-one (sides .nx))
 
     past-z : ltb (z + 1) (sides .nz) ≡ true → s + sides .nx * sides .ny < sampleCount (sizeOf sides)
+    unfolding site
     past-z h =
         let q : y + sides .ny * (z + 1) ≡ y + sides .ny * z + sides .ny = omega (arith, mul-add (sides .ny) z 1, mul-one (sides .ny)) in
-        omega (arith, rw q at (sample-small sides y (z + 1) hy (ltb-true _ _ h) x hx), mul-add (sides .nx) (y + sides .ny * z) (sides .ny))
+        omega (arith, rw q at (site-small (sizeOf sides) x y (z + 1) hx hy (ltb-true _ _ h)), mul-add (sides .nx) (y + sides .ny * z) (sides .ny))
 
     at-sample : (n : ℕ) (cuts : Cuts) (r : PointRooms) → n ≡ countBelow sides masks (3 * s) → Tested sides masks (3 * s) cuts → RoomsFor (countAll sides masks) r
         → SamplePlaceable sides samples s n cuts r

@@ -11,6 +11,7 @@ use lib.Dec.{ltb}
 use lib.ListN.{getD}
 use borrow.Author.Tests.{ltb-true, lt-ltb, le-ltb}
 use Rattle.laws.specs.Bits.{wordBits, bit}
+use Rattle.laws.proofs.Tests.{same-ends}
 use Rattle.laws.proofs.Words.{bit-and, bit-xor, bit-half}
 use Rattle.grid.specs.Grid.{site}
 use Rattle.grid.proofs.Crossings.{crossed-x, crossed-y, crossed-z}
@@ -19,12 +20,6 @@ use Rattle.rows.specs.declared.Sides.{Sides}
 use Rattle.rows.specs.declared.Stretch.{Stretch}
 use Rattle.rows.specs.Rows.{sizeOf, cut, Ready, Stands, ownSamples, ownCubes, samplesMask, cubesMask, CutWords}
 use Rattle.rows.proofs.Stretches.{row-there, own-most, own-last, cubes-most, sample-is, behind-is, over-is, behind-there, over-there, samples-set, cubes-set}
-
--- two equal ends do not differ
-pub same-ends : (b : Bool) → xor b b ≡ false
-unfolding xor
-same-ends true = refl
-same-ends false = refl
 
 module _ (sides : Sides) (masks : List ℕ) (ready : Ready sides masks) (z : ℕ) (at : Stretch) (stands : Stands sides z at) (hy : at .y < sides .ny) (hz : z < sides .nz) where
   abbrev above : ℕ → Bool

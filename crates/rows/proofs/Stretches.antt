@@ -13,9 +13,10 @@ use Rattle.laws.proofs.Halves.{bit-of-ones}
 use Rattle.laws.proofs.Tests.{leb-cases}
 use Rattle.laws.proofs.Words.{bit-half}
 use Rattle.grid.specs.Limits.{mostSide, mostRows, mostEdges}
-use Rattle.grid.specs.Grid.{axes, sampleCount, edgeCount}
+use Rattle.grid.specs.Grid.{site, axes, sampleCount, edgeCount}
 use Rattle.grid.specs.Work.{SidesFit}
 use Rattle.grid.proofs.Sides.{rows-most, samples-most}
+use Rattle.grid.proofs.Sites.{site-small}
 use Rattle.masks.specs.Masks.{wordCubes, rowWords, lastSamples, mostWords, AllSet}
 use Rattle.rows.specs.declared.Sides.{Sides}
 use Rattle.rows.specs.declared.Stretch.{Stretch}
@@ -28,10 +29,6 @@ edges-few sides fit = omega (arith, samples-most (sides .nx) (sides .ny) (sides 
 pub words-most : (nx ny nz : ℕ) → SidesFit nx ny nz → rowWords nx * (ny * nz) ≤ mostWords
 words-most nx ny nz fit =
     mul-le-mul {n₁ = rowWords nx} {m₁ = ny * nz} {n₂ = rowWords mostSide} {m₂ = mostRows} (omega (arith, fit .most-x)) (rows-most nx ny nz fit)
-
--- the samples of a row are samples of the grid
-pub sample-small : (sides : Sides) (y z : ℕ) → y < sides .ny → z < sides .nz → (x : ℕ) → x < sides .nx → x + sides .nx * (y + sides .ny * z) < sampleCount (sizeOf sides)
-sample-small sides y z hy hz x hx = low-lt x (sides .nx) (y + sides .ny * z) (sides .ny * sides .nz) hx (low-lt y (sides .ny) z (sides .nz) hy hz)
 
 -- the first layer begins at the first sample, and the first stretch where its layer does
 pub layer-first : (sides : Sides) → layerFirst sides 0 ≡ 0
@@ -151,10 +148,11 @@ module _ (sides : Sides) (z : ℕ) (at : Stretch) (stands : Stands sides z at) w
     word-there = omega (arith, stands .word, word-in row row-there)
 
     pub sample-there : (i : ℕ) → i < at .left → at .s + i < sampleCount (sizeOf sides)
-    sample-there i l = omega (arith, sample-is i, sample-small sides (at .y) z hy hz (wordCubes * stands .past + i) (omega (arith, stands .along)))
+    unfolding site
+    sample-there i l = omega (arith, sample-is i, site-small (sizeOf sides) (wordCubes * stands .past + i) (at .y) z (omega (arith, stands .along)) hy hz)
 
-    pub stretch-small : SidesFit (sides .nx) (sides .ny) (sides .nz) → Addable at
-    stretch-small fit =
+    pub stretch-addable : SidesFit (sides .nx) (sides .ny) (sides .nz) → Addable at
+    stretch-addable fit =
         record {
           left = omega (arith, stands .along, fit .most-x);
           y = omega (arith, fit .most-y);
@@ -172,15 +170,15 @@ module _ (sides : Sides) (masks : List ℕ) (ready : Ready sides masks) (z : ℕ
 
   pub samples-set : AllSet (ownSamples (at .left)) (samplesMask sides (at .left))
   samples-set x =
-      leb-cases (at .left) wordBits (λ t. bit (cond t (sides .last) (2 ^ 63 - 1)) x ≡ ltb x (cond t (at .left) wordCubes))
+      leb-cases (at .left) wordBits (λ t. bit (cond t (sides .last) (2 ^ wordCubes - 1)) x ≡ ltb x (cond t (at .left) wordCubes))
       (λ l. rw (← (last-is l)) (ready .last x))
-      (λ l. bit-of-ones wordCubes (2 ^ 63 - 1) x refl)
+      (λ l. bit-of-ones wordCubes (2 ^ wordCubes - 1) x refl)
 
   pub cubes-set : AllSet (ownCubes (at .left)) (cubesMask sides (at .left))
   cubes-set x =
-      leb-cases (at .left) wordBits (λ t. bit (cond t (sides .last / 2) (2 ^ 63 - 1)) x ≡ ltb x (cond t (at .left - 1) wordCubes))
+      leb-cases (at .left) wordBits (λ t. bit (cond t (sides .last / 2) (2 ^ wordCubes - 1)) x ≡ ltb x (cond t (at .left - 1) wordCubes))
       (λ l. bit-half (sides .last) x ∙ ready .last (x + 1) ∙ ap (ltb (x + 1)) (last-is l) ∙ same (ltb (x + 1) (at .left)) refl)
-      (λ l. bit-of-ones wordCubes (2 ^ 63 - 1) x refl)
+      (λ l. bit-of-ones wordCubes (2 ^ wordCubes - 1) x refl)
     where
       same : (t : Bool) → ltb (x + 1) (at .left) ≡ t → t ≡ ltb x (at .left - 1)
       same true e = sym (lt-ltb x (at .left - 1) (omega (arith, ltb-true (x + 1) (at .left) e)))

@@ -64,11 +64,12 @@ ownSamples left = cond (leb left wordBits) left wordCubes
 abbrev pub ownCubes : ℕ → ℕ
 ownCubes left = cond (leb left wordBits) (left - 1) wordCubes
 
+-- the masks of both: the bits of a row's last word, or of all cubes of a word
 abbrev pub samplesMask : Sides → ℕ → ℕ
-samplesMask sides left = cond (leb left wordBits) (sides .last) (2 ^ 63 - 1)
+samplesMask sides left = cond (leb left wordBits) (sides .last) (2 ^ wordCubes - 1)
 
 abbrev pub cubesMask : Sides → ℕ → ℕ
-cubesMask sides left = cond (leb left wordBits) (sides .last / 2) (2 ^ 63 - 1)
+cubesMask sides left = cond (leb left wordBits) (sides .last / 2) (2 ^ wordCubes - 1)
 
 -- the first stretch of a layer, and the stretch after one
 abbrev pub firstStretch : Sides → ℕ → Stretch

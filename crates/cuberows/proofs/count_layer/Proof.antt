@@ -7,7 +7,7 @@ use Rattle.laws.proofs.Ranges.{sum-split}
 use Rattle.cube.specs.Answer.{count}
 use Rattle.masks.specs.Masks.{rowWords}
 use Rattle.rows.specs.Rows.{Stands, firstX, ownCubes, cubesMask, firstStretch}
-use Rattle.rows.proofs.Stretches.{stands-first, stands-next, word-there, stretch-small, cubes-most}
+use Rattle.rows.proofs.Stretches.{stands-first, stands-next, word-there, stretch-addable, cubes-most}
 use Rattle.cuberows.specs.Cubes.{cornersAt, BusyCubes, stretchCount, cubeCase}
 use Rattle.cuberows.proofs.Layers.{countedTo, counted-none, counted-row, counted-all, counted-most, Within, cubes-next, corners-there, stretch-count}
 use Rattle.cuberows.proofs.count_layer.Statement.{statement}
@@ -107,7 +107,7 @@ next-requires c κs =
     let here = c .before .before .before .before in
     let s = begun here in
     let l = here .before .before .before .loop in
-    stretch-small (s .args .sides) (s .args .z) (l .at) (l .inv .0) (l .inv .1 .0) (omega (arith, s .pre .1 .1)) (s .pre .1 .0 .fit)
+    stretch-addable (s .args .sides) (s .args .z) (l .at) (l .inv .0) (l .inv .1 .0) (omega (arith, s .pre .1 .1)) (s .pre .1 .0 .fit)
 
 loop-less : tie.Need-loop-less Inv-loop μ-loop
 loop-less c =

@@ -4,24 +4,26 @@ use Prim.Native.Nat.{_/_, _%_, _<_}
 use native.Mathlib.Omega.{arith}
 use borrow.Author.Needs.{needs}
 use Rattle.grid.specs.Limits.{mostSamples}
+use Rattle.grid.specs.Grid.{site}
 use Rattle.grid.proofs.Sides.{samples-most}
 use Rattle.rows.specs.Rows.{sizeOf}
 use Rattle.edgepoints.specs.EdgePoint.{pointBy}
 use Rattle.laws.proofs.Binary.{bit-times}
-use Rattle.rows.proofs.Stretches.{sample-small}
+use Rattle.grid.proofs.Sites.{site-small}
 use Rattle.edgepoints.proofs.Marks.{stands}
 use Rattle.edgepoints.proofs.point_on.Statement.{statement}
 use Rattle.edgepoints.proofs.point_on.Tie as tie
 
 -- the sample's number is small
 few : (c : tie.Start) → c .args .at .s < mostSamples
+unfolding site
 few c =
     let at = c .pre .0 in
     omega (
       arith,
       at .site,
       samples-most (c .args .sides .nx) (c .args .sides .ny) (c .args .sides .nz) (at .fit),
-      sample-small (c .args .sides) (c .args .at .y) (c .args .at .z) (at .below-y) (at .below-z) (c .args .at .x) (at .below-x),
+      site-small (sizeOf (c .args .sides)) (c .args .at .x) (c .args .at .y) (c .args .at .z) (at .below-x) (at .below-y) (at .below-z),
     )
 
 direction-of-requires : tie.Need-direction-of-requires

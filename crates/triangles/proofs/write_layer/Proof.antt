@@ -6,7 +6,7 @@ use borrow.Author.Needs.{needs}
 use Rattle.grid.proofs.Sides.{samples-most}
 use Rattle.masks.specs.Masks.{rowWords}
 use Rattle.rows.specs.Rows.{Stands, firstX, cubesMask, firstStretch}
-use Rattle.rows.proofs.Stretches.{stands-first, sample-there, word-there, stretch-small}
+use Rattle.rows.proofs.Stretches.{stands-first, sample-there, word-there, stretch-addable}
 use Rattle.cuberows.specs.Cubes.{cornersAt, BusyCubes}
 use Rattle.cuberows.proofs.Layers.{Within, corners-there}
 use Rattle.triangles.specs.Walk.{Written}
@@ -108,7 +108,7 @@ next-requires c κs =
     let here = c .before .before .before .before .before .before .before .before in
     let s = begun here in
     let l = here .before .before .before .loop in
-    stretch-small (s .args .sides) (s .args .z) (l .at) (l .inv .0) (l .inv .1 .0) (omega (arith, s .pre .1 .1 .1 .0)) (s .pre .1 .1 .0 .fit)
+    stretch-addable (s .args .sides) (s .args .z) (l .at) (l .inv .0) (l .inv .1 .0) (omega (arith, s .pre .1 .1 .1 .0)) (s .pre .1 .1 .0 .fit)
 
 loop-less : tie.Need-loop-less Inv-loop μ-loop
 loop-less c =

@@ -4,7 +4,7 @@ use Prim.Native.Nat.{_*_, _-_}
 use native.Mathlib.Omega.{arith}
 use Rattle.masks.specs.Masks.{rowWords}
 use Rattle.rows.specs.Rows.{Stands}
-use Rattle.rows.proofs.Stretches.{stands-first, stands-next, layer-end, word-there, stretch-small}
+use Rattle.rows.proofs.Stretches.{stands-first, stands-next, layer-end, word-there, stretch-addable}
 use Rattle.pointnumbers.specs.Numbers.{NumberedTo}
 use Rattle.pointnumbers.proofs.numbers.number_layer.Statement.{statement}
 use Rattle.pointnumbers.proofs.numbers.number_layer.Tie as tie
@@ -36,7 +36,7 @@ next-requires : tie.Need-next-requires Inv-loop μ-loop
 next-requires c κs =
     let l = c .before .before .before .before .before .before .before in
     let s = start l in
-    stretch-small (s .args .sides) (s .args .z) (l .loop .at) (l .loop .inv .0) (omega arith) (s .pre .1 .0) (s .pre .0 .fit)
+    stretch-addable (s .args .sides) (s .args .z) (l .loop .at) (l .loop .inv .0) (omega arith) (s .pre .1 .0) (s .pre .0 .fit)
 
 loop-less : tie.Need-loop-less Inv-loop μ-loop
 loop-less c =

@@ -8,7 +8,7 @@ use Rattle.masks.specs.Masks.{rowWords}
 use Rattle.rows.specs.Rows.{Stands, layerFirst}
 use Rattle.edgepoints.specs.EdgePoint.{PointRooms, pointRooms}
 use Rattle.pointplaces.specs.Places.{countAll, Advanced}
-use Rattle.rows.proofs.Stretches.{stands-first, stands-next, layer-end, word-there, stretch-small}
+use Rattle.rows.proofs.Stretches.{stands-first, stands-next, layer-end, word-there, stretch-addable}
 use Rattle.pointplaces.proofs.Placing.{SameLengths, room-kept, advanced-none, advanced-on}
 use Rattle.pointplaces.proofs.places.place_layer.Statement.{statement}
 use Rattle.pointplaces.proofs.places.place_layer.Tie as tie
@@ -77,7 +77,7 @@ next-requires c κs =
     let t = c .before .before .before .before .before .before .before .before .before .before in
     let l = head t in
     let s = start l in
-    stretch-small (s .args .sides) (s .args .z) (l .loop .at) (l .loop .inv .0) (row-there t) (s .pre .1 .0) (s .pre .0 .ready .fit)
+    stretch-addable (s .args .sides) (s .args .z) (l .loop .at) (l .loop .inv .0) (row-there t) (s .pre .1 .0) (s .pre .0 .ready .fit)
 
 loop-less : tie.Need-loop-less Inv-loop μ-loop
 loop-less c =

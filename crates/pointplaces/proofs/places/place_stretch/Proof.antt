@@ -10,7 +10,7 @@ use Rattle.laws.proofs.Scan.{Left, left-all}
 use Rattle.rows.specs.Rows.{firstX, ownSamples}
 use Rattle.edgepoints.specs.EdgePoint.{PointRooms, pointRooms}
 use Rattle.pointplaces.specs.Places.{countAll, Advanced}
-use Rattle.rows.proofs.Stretches.{first-x, own-most, sample-is, stretch-small}
+use Rattle.rows.proofs.Stretches.{first-x, own-most, sample-is, stretch-addable}
 use Rattle.rows.proofs.Busy.{busyOf, busy-small, Tested, tested, Found, found, rest-uncut}
 use Rattle.pointplaces.proofs.Placing.{SameLengths, room-kept, samples-passed, advanced-none, advanced-on, sample-passed}
 use Rattle.pointplaces.proofs.Ends.{sample-placeable}
@@ -123,7 +123,7 @@ add-t21 : tie.Need-add-t21 Inv-loop μ-loop
 add-t21 c =
     let t = c .before in
     let s = start (crossed-of (t .before)) in
-    omega (arith, next-busy t .small, stretch-small (s .args .sides) (s .args .z) (s .args .at) (s .pre .1 .0) (s .pre .1 .1 .0) (s .pre .1 .1 .1 .0) (s .pre .0 .ready .fit) .s)
+    omega (arith, next-busy t .small, stretch-addable (s .args .sides) (s .args .z) (s .args .at) (s .pre .1 .0) (s .pre .1 .1 .0) (s .pre .1 .1 .1 .0) (s .pre .0 .ready .fit) .s)
 
 add-t22 : tie.Need-add-t22 Inv-loop μ-loop
 add-t22 c =
