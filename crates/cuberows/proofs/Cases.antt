@@ -19,12 +19,12 @@ use Rattle.cube.specs.Answer.{mostCaseTriangles, segments, triangles, count, co
 use Rattle.cube.proofs.Places.{count-at}
 use Rattle.grid.specs.Grid.{site}
 use Rattle.grid.specs.Mesh.{cornerSite, caseAt}
-use Rattle.masks.specs.Masks.{wordCubes, maskAbove}
+use Rattle.masks.specs.Masks.{wordCubes}
 use Rattle.rows.specs.declared.Sides.{Sides}
 use Rattle.rows.specs.declared.Stretch.{Stretch}
-use Rattle.rows.specs.Rows.{sizeOf, Ready, Stands, ownCubes}
+use Rattle.rows.specs.Rows.{sizeOf, wordsAbove, Ready, Stands, ownCubes}
 use Rattle.rows.proofs.Stretches.{behind-is, over-is, both-is, row-there, behind-there, over-there, both-there, cubes-most}
-use Rattle.rows.proofs.Cut.{bit-is}
+use Rattle.rows.proofs.Cut.{row-is, bit-is}
 use Rattle.cuberows.specs.declared.Corners.{Corners}
 use Rattle.cuberows.specs.Cubes.{cornersAt, readCase, wordCase, cubeCase}
 
@@ -83,20 +83,21 @@ one-side-empty b m x this next =
     ap count k ∙ whole-cube b
 
 -- the case that the words give is the grid's
-module _ (sides : Sides) (masks : List ℕ) (ready : Ready sides masks) (z : ℕ) (at : Stretch) (stands : Stands sides z at) (hy : at .y + 1 < sides .ny) (hz : z + 1 < sides .nz) (i : ℕ)
+module _ (sides : Sides) (masks : List ℕ) (z : ℕ) (ready : Ready sides z masks) (at : Stretch) (stands : Stands sides z at) (hy : at .y + 1 < sides .ny) (hz : z + 1 < sides .nz) (i : ℕ)
     (h : i < ownCubes (at .left)) where
-  abbrev row : ℕ
-  row = at .y + sides .ny * z
+  -- the stretch's row of those lent
+  abbrev lent : ℕ
+  lent = at .y + sides .ny * stands .up
 
   -- a corner's bit of its word
-  corner : (c along r word : ℕ) → i + cornerX c ≡ along → at .y + cornerY c + sides .ny * (z + cornerZ c) ≡ r → word ≡ stands .past + sides .words * r
-      → along ≤ i + 1 → r < sides .ny * sides .nz
-      → maskAbove (sides .nx) masks (cornerSite (sizeOf sides) (wordCubes * stands .past + i) (at .y) z c) ≡ bit (getD masks word 0) along
+  corner : (c along l word : ℕ) → i + cornerX c ≡ along → at .y + cornerY c + sides .ny * (z + cornerZ c) ≡ l + sides .ny * sides .below → word ≡ stands .past + sides .words * l
+      → along ≤ i + 1 → l < sides .ny * ready .layers
+      → wordsAbove sides masks (cornerSite (sizeOf sides) (wordCubes * stands .past + i) (at .y) z c) ≡ bit (getD masks word 0) along
   unfolding cornerSite site
-  corner c along r word p q is l there =
+  corner c along l word p q is near there =
       let most = cubes-most sides z at stands in
       let x : wordCubes * stands .past + i + cornerX c ≡ wordCubes * stands .past + along = omega arith in
-      rw (q, x, is) (sym (bit-is sides masks ready z at stands (omega arith) (omega arith) r along there (omega (arith, most)) (omega (arith, most))))
+      rw (q, x, is) (sym (bit-is sides masks z ready at stands (omega arith) (omega arith) l _ along there refl (omega (arith, most)) (omega (arith, most))))
 
   pub case-is : wordCase (cornersAt masks (sides .words) (sides .ny) (at .word)) i ≡ cubeCase sides masks z (wordCubes * stands .past + i) (at .y)
   unfolding wordCase caseAt caseOf bits
@@ -108,19 +109,20 @@ module _ (sides : Sides) (masks : List ℕ) (ready : Ready sides masks) (z : ℕ
       let behind = behind-is sides z at stands in
       let over = over-is sides z at stands in
       let both = both-is sides z at stands in
-      let here = row-there sides z at stands hy′ hz′ in
-      let further = behind-there sides z at stands hy′ hz′ hy in
-      let upper = over-there sides z at stands hy′ hz′ hz in
-      let last = both-there sides z at stands hy hz in
+      let level = row-is sides masks z ready at stands hy′ hz′ in
+      let here = row-there sides masks z ready at stands hy′ in
+      let further = behind-there sides masks z ready at stands hy in
+      let upper = over-there sides masks z ready at stands hy′ hz in
+      let last = both-there sides masks z ready at stands hy hz in
       rw (
-        corner 0 i row (at .word) (omega arith) (omega arith) (stands .word) (omega arith) here,
-        corner 1 (i + 1) row (at .word) (omega arith) (omega arith) (stands .word) (omega arith) here,
-        corner 2 i (row + 1) (at .word + sides .words) (omega arith) (omega arith) behind (omega arith) further,
-        corner 3 (i + 1) (row + 1) (at .word + sides .words) (omega arith) (omega arith) behind (omega arith) further,
-        corner 4 i (row + sides .ny) (at .word + sides .words * sides .ny) (omega arith) (omega arith) over (omega arith) upper,
-        corner 5 (i + 1) (row + sides .ny) (at .word + sides .words * sides .ny) (omega arith) (omega arith) over (omega arith) upper,
-        corner 6 i (row + sides .ny + 1) (at .word + sides .words * sides .ny + sides .words) (omega arith) (omega arith) both (omega arith) last,
-        corner 7 (i + 1) (row + sides .ny + 1) (at .word + sides .words * sides .ny + sides .words) (omega arith) (omega arith) both (omega arith) last,
+        corner 0 i lent (at .word) (omega arith) (omega arith) (stands .word) (omega arith) here,
+        corner 1 (i + 1) lent (at .word) (omega arith) (omega arith) (stands .word) (omega arith) here,
+        corner 2 i (lent + 1) (at .word + sides .words) (omega arith) (omega arith) behind (omega arith) further,
+        corner 3 (i + 1) (lent + 1) (at .word + sides .words) (omega arith) (omega arith) behind (omega arith) further,
+        corner 4 i (lent + sides .ny) (at .word + sides .words * sides .ny) (omega arith) (omega arith) over (omega arith) upper,
+        corner 5 (i + 1) (lent + sides .ny) (at .word + sides .words * sides .ny) (omega arith) (omega arith) over (omega arith) upper,
+        corner 6 i (lent + sides .ny + 1) (at .word + sides .words * sides .ny + sides .words) (omega arith) (omega arith) both (omega arith) last,
+        corner 7 (i + 1) (lent + sides .ny + 1) (at .word + sides .words * sides .ny + sides .words) (omega arith) (omega arith) both (omega arith) last,
       )
       (omega (
         arith,

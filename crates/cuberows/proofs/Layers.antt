@@ -17,11 +17,11 @@ use Rattle.cube.specs.Answer.{mostCaseTriangles, count, triangles}
 use Rattle.grid.specs.Limits.{mostSide}
 use Rattle.cube.proofs.Corners.{case-small}
 use Rattle.grid.specs.Mesh.{cornerSite, gridEdge, caseAt, cubeTriangles, edgeMesh}
-use Rattle.masks.specs.Masks.{wordCubes, maskAbove}
+use Rattle.masks.specs.Masks.{wordCubes}
 use Rattle.rows.specs.declared.Sides.{Sides}
 use Rattle.rows.specs.declared.Stretch.{Stretch}
-use Rattle.rows.specs.Rows.{sizeOf, Ready, Stands, firstX, ownCubes, cubesMask, nextStretch}
-use Rattle.rows.proofs.Stretches.{first-x, both-is, both-there, word-in, cubes-most, cubes-set}
+use Rattle.rows.specs.Rows.{sizeOf, wordsAbove, Ready, Stands, firstX, ownCubes, cubesMask, nextStretch}
+use Rattle.rows.proofs.Stretches.{first-x, both-is, among, both-there, cubes-most, cubes-set}
 use Rattle.cuberows.specs.declared.Corners.{Corners}
 use Rattle.cuberows.specs.Cubes.{cornersAt, wordCase, BusyCubes, busyCount, stretchCount, cubeCase, layerCount}
 use Rattle.cuberows.proofs.Cases.{word-case-small, count-most, case-is}
@@ -49,7 +49,7 @@ countedTo sides masks z x y =
 module _ (sides : Sides) (masks : List ℕ) (z : ℕ) where
   cube-most : (x y : ℕ) → count (cubeCase sides masks z x y) ≤ mostCaseTriangles
   unfolding caseAt
-  cube-most x y = count-most (cubeCase sides masks z x y) (case-small (λ c. maskAbove (sides .nx) masks (cornerSite (sizeOf sides) x y z c)))
+  cube-most x y = count-most (cubeCase sides masks z x y) (case-small (λ c. wordsAbove sides masks (cornerSite (sizeOf sides) x y z c)))
 
   pub counted-most : (x y : ℕ) → sides .nx ≤ mostSide → countedTo sides masks z x y ≤ mostInRow * y + mostCaseTriangles * x
   counted-most x y h =
@@ -77,7 +77,7 @@ module _ (sides : Sides) (masks : List ℕ) (z : ℕ) where
 abbrev pub Within : Sides → ℕ → ℕ → Type 0
 Within sides x y = (y < sides .ny) × (y + 1 ≡ sides .ny → x ≡ 0)
 
-module _ (sides : Sides) (masks : List ℕ) (ready : Ready sides masks) (z : ℕ) (at : Stretch) (stands : Stands sides z at) where
+module _ (sides : Sides) (masks : List ℕ) (z : ℕ) (ready : Ready sides z masks) (at : Stretch) (stands : Stands sides z at) where
   -- What holds past a stretch's cubes holds at the next stretch; at the end of a row that is the next row's beginning.
   pub cubes-next : (P : ℕ → ℕ → Type 0) → (P (sides .nx - 1) (at .y) → P 0 (at .y + 1)) → P (firstX sides at + ownCubes (at .left)) (at .y)
       → P (firstX sides (nextStretch sides at)) (nextStretch sides at .y)
@@ -98,16 +98,16 @@ module _ (sides : Sides) (masks : List ℕ) (ready : Ready sides masks) (z : ℕ
 
     -- the four words are among the words
     pub corners-there : at .word + sides .words * sides .ny + sides .words < length masks
-    corners-there = omega (arith, ready .rows, both-is sides z at stands, word-in sides z at stands _ (both-there sides z at stands hy hz))
+    corners-there = among sides masks z ready at stands _ (both-there sides masks z ready at stands hy hz) (both-is sides z at stands)
 
     -- cube i of the stretch is a cube of the grid
     pub cube-is : (i : ℕ) → i < ownCubes (at .left) → wordCase corners i ≡ cubeCase sides masks z (firstX sides at + i) (at .y)
-    cube-is i h = rw (first-x sides z at stands) (case-is sides masks ready z at stands hy hz i h)
+    cube-is i h = rw (first-x sides z at stands) (case-is sides masks z ready at stands hy hz i h)
 
     -- no cube past the stretch's own is busy, and those of its own that are not have no triangle
     module _ (busy : ℕ) (by : BusyCubes corners (cubesMask sides (at .left)) busy) where
       mask-bit : (i : ℕ) → bit (cubesMask sides (at .left)) i ≡ ltb i (ownCubes (at .left))
-      mask-bit = cubes-set sides masks ready z at stands
+      mask-bit = cubes-set sides masks z ready at stands
 
       pub past-quiet : (i : ℕ) → ownCubes (at .left) ≤ i → bit busy i ≡ false
       past-quiet i h = go (bit busy i) refl
@@ -143,11 +143,11 @@ module _ (sides : Sides) (masks : List ℕ) where
   pub layers-most : (n : ℕ) → sides .nx ≤ mostSide → sides .ny ≤ mostSide → sumTo n (layerCount sides masks) ≤ mostInLayer * n
   layers-most n h k = sum-most mostInLayer n (layerCount sides masks) (λ z l. layer-most z h k)
 
-  pub mesh-count : sumTo (sides .nz - 1) (layerCount sides masks) ≡ length (edgeMesh (sizeOf sides) (maskAbove (sides .nx) masks))
+  pub mesh-count : sumTo (sides .nz - 1) (layerCount sides masks) ≡ length (edgeMesh (sizeOf sides) (wordsAbove sides masks))
   unfolding layerCount count edgeMesh cubeTriangles sumBox
   mesh-count =
       let n = sizeOf sides in
-      let above = maskAbove (sides .nx) masks in
+      let above = wordsAbove sides masks in
       sum-box-cong (sides .nx - 1) (sides .ny - 1) (sides .nz - 1) (λ x y z. count (caseAt n above x y z)) (λ x y z. length (cubeTriangles n above x y z))
       (λ x y z lx ly lz. sym (length-map (triangles (caseAt n above x y z)) (rename (gridEdge n x y z))))
       ∙ sym (length-box (sides .nx - 1) (sides .ny - 1) (sides .nz - 1) (cubeTriangles n above))

@@ -8,9 +8,8 @@ use Rattle.laws.specs.Bits.{wordBits, bit}
 use Rattle.laws.specs.Range.{sumTo}
 use Rattle.cube.specs.Answer.{count}
 use Rattle.grid.specs.Mesh.{caseAt}
-use Rattle.masks.specs.Masks.{maskAbove}
 use Rattle.rows.specs.declared.Sides.{Sides}
-use Rattle.rows.specs.Rows.{sizeOf}
+use Rattle.rows.specs.Rows.{sizeOf, wordsAbove}
 use Rattle.cuberows.specs.declared.Corners.{Corners}
 
 -- the words around the cubes whose first corners' word is at a place, where a row has so many words and a layer so many rows
@@ -44,7 +43,7 @@ stretchCount m cubes = sumTo wordBits (busyCount m cubes)
 
 -- the case of a cube of the grid, by the words, and how many triangles the cubes of a layer have
 abbrev pub cubeCase : Sides → List ℕ → ℕ → ℕ → ℕ → ℕ
-cubeCase sides masks z x y = caseAt (sizeOf sides) (maskAbove (sides .nx) masks) x y z
+cubeCase sides masks z x y = caseAt (sizeOf sides) (wordsAbove sides masks) x y z
 
 unfoldable pub layerCount : Sides → List ℕ → ℕ → ℕ
 layerCount sides masks z = sumTo (sides .ny - 1) (λ y. sumTo (sides .nx - 1) (λ x. count (cubeCase sides masks z x y)))

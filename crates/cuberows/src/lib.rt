@@ -78,7 +78,7 @@ fn count_stretch(counts: &[u8; CASES], corners: Corners, cubes: u64) -> u32
 // How many triangles a layer of cubes has.
 fn count_layer(counts: &[u8; CASES], sides: Sides, z: usize, masks: &[u64]) -> u32
     requires { ⌜ Counts (now counts) ⌝ }
-    requires { ⌜ Ready sides (now masks) ⌝ }
+    requires { ⌜ Ready sides z (now masks) ⌝ }
     requires { ⌜ z + 1 < sides .nz ⌝ }
     ensures { λ r. ⌜ r ≡ layerCount sides (now (masks .entry)) z ⌝ }
 {
@@ -107,6 +107,7 @@ pub fn count(nx: usize, ny: usize, nz: usize, masks: &[u64]) -> u32
         nz,
         words: masks::row_words(nx),
         last: masks::last_mask(nx),
+        below: 0,
     };
     let last = nz - 1;
     let mut sum = 0;

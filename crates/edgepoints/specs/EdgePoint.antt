@@ -11,6 +11,7 @@ use Rattle.grid.specs.Grid.{Size, site, coordinate, along, axes, otherEnd, some
 use Rattle.grid.specs.Point.{offset}
 use Rattle.grid.specs.Work.{SidesFit}
 use Rattle.rows.specs.declared.Sides.{Sides}
+use Rattle.rows.specs.Rows.{layerFirst}
 use Rattle.edgepoints.specs.declared.Sample.{Sample}
 use Rattle.edgepoints.specs.declared.Point.{Point}
 
@@ -55,22 +56,23 @@ pointBy n s axis far = record {
 unfoldable pub pointFrom : Size → ℕ → List ℕ → ℕ → ℕ → Point
 pointFrom n grey samples s axis = pointBy n s axis (offset (getD samples s 0) (getD samples (otherEnd n s (2 ^ axis)) 0) grey)
 
--- a sample stands at its coordinates in a grid within the limits
+-- a sample stands at its coordinates in a grid within the limits, and at its place among the samples lent
 pub record Standing (sides : Sides) (at : Sample) : Type 0 where
   pub fit : SidesFit (sides .nx) (sides .ny) (sides .nz)
   pub below-x : at .x < sides .nx
   pub below-y : at .y < sides .ny
   pub below-z : at .z < sides .nz
   pub site : at .s ≡ at .x + sides .nx * (at .y + sides .ny * at .z)
+  pub lent : at .s ≡ layerFirst sides (sides .below) + at .place
 
 -- how much further on the next sample along an axis stands
 abbrev pub stepOf : Size → ℕ → ℕ
 stepOf n axis = site n (along (2 ^ axis) 0) (along (2 ^ axis) 1) (along (2 ^ axis) 2)
 
--- what it takes to place point n on the edge that leaves sample s along an axis: its two ends are samples that differ, and there is room
-pub record Placeable (size : Size) (samples : List ℕ) (s axis n : ℕ) (r : PointRooms) : Type 0 where
-  pub there : s + stepOf size axis < length samples
-  pub differ : getD samples s 0 ≡ getD samples (s + stepOf size axis) 0 → ⊥
+-- what it takes to place point n on the edge that leaves the sample at a place along an axis: its two ends are samples that differ, and there is room
+pub record Placeable (size : Size) (samples : List ℕ) (place axis n : ℕ) (r : PointRooms) : Type 0 where
+  pub there : place + stepOf size axis < length samples
+  pub differ : getD samples place 0 ≡ getD samples (place + stepOf size axis) 0 → ⊥
   pub room : RoomsFor (n + 1) r
 
 -- the rooms past an edge: they change where the edge is crossed

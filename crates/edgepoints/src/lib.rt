@@ -8,14 +8,15 @@ ghost use Rattle.laws.specs.Range.{one-if};
 ghost use Rattle.grid.specs.Limits.{mostSide};
 ghost use Rattle.grid.specs.Grid.{axes, isEnd, someFace, onFaceFrom};
 ghost use Rattle.grid.specs.Work.{SidesFit};
-ghost use Rattle.rows.specs.Rows.{sizeOf, nextNumber};
+ghost use Rattle.rows.specs.Rows.{sizeOf, gridSamples, nextNumber};
 ghost use Rattle.edgepoints.specs.EdgePoint.{mostOffset, pointRooms, Standing, RoomsFor, Placeable, placedFrom, withPlaced, stepOf, pointBy, pointFrom};
 use grid::limits::UNIT;
 use rows::Sides;
 
-// A sample by its number and its coordinates.
+// A sample by its number in the grid, its place among the samples lent, and its coordinates.
 pub struct Sample {
     pub s: usize,
+    pub place: usize,
     pub x: usize,
     pub y: usize,
     pub z: usize,
@@ -130,18 +131,18 @@ pub fn place_edge(
 ) -> usize
     requires { ⌜ Standing sides at ⌝ }
     requires { ⌜ axis < 3 ⌝ }
-    requires { ⌜ (cut ≡ true → Placeable (sizeOf sides) (now samples) (at .s) axis n (pointRooms (now points) (now edges) (now marks))) ⌝ }
+    requires { ⌜ (cut ≡ true → Placeable (sizeOf sides) (now samples) (at .place) axis n (pointRooms (now points) (now edges) (now marks))) ⌝ }
     ensures { λ r. ⌜ r ≡ nextNumber cut n ⌝ }
     ensures { λ r. ⌜ pointRooms (now (points .exit)) (now (edges .exit)) (now (marks .exit))
-        ≡ withPlaced cut n (pointFrom (sizeOf sides) grey (now (samples .entry)) (at .s) axis)
+        ≡ withPlaced cut n (pointFrom (sizeOf sides) grey (gridSamples sides (now (samples .entry))) (at .s) axis)
         (pointRooms (now (points .entry)) (now (edges .entry)) (now (marks .entry))) ⌝ }
 {
     if !cut {
         return n;
     }
-    let s = at.s;
-    let other = s + step_of(sides, axis);
-    let offset = grid::offset(samples[s], samples[other], grey);
+    let here = at.place;
+    let other = here + step_of(sides, axis);
+    let offset = grid::offset(samples[here], samples[other], grey);
     let p = point_on(sides, at, axis, offset);
     write_point(p, n, points, edges, marks);
     n + 1

@@ -1,23 +1,25 @@
 -- The numbers below n that pass a test, and the rank of each among them: how many that pass stand below it.
 use mathlib.Core.Path.{_≡_, refl, ap, sym, _∙_}
-use mathlib.Core.List.{[], _∷_, _++_}
+use mathlib.Core.List.{List, [], _∷_, _++_}
 use mathlib.Core.Bool.{Bool, true, false, cond}
-use Prim.Native.Nat.{ℕ, zero, suc, _+_, _<_}
+use Prim.Native.Nat.{ℕ, zero, suc, _+_, _-_, _<_, _≤_}
 use native.Mathlib.Decide.{decLt}
+use native.Mathlib.Nat.{zero-add}
 use native.Mathlib.Numerals.{add-one}
 use native.Mathlib.Omega.{arith}
 use lib.ListN.{length, getD, length-append, List·getD-append}
 use lib.Seq.{getD-at}
-use Rattle.laws.specs.Range.{sumTo, joinTo, countTo, keepTo, one-if}
+use Rattle.laws.specs.Range.{sumTo, joinTo, countTo, keepTo, keepFrom, one-if}
+use Rattle.laws.proofs.Ranges.{join-cong, join-split, join-quiet, join-one}
 
-length-one : (b : Bool) (n : ℕ) → length (cond b (n ∷ []) []) ≡ one-if b
-length-one true n = refl
-length-one false n = refl
+length-if : (b : Bool) (n : ℕ) → length (cond b (n ∷ []) []) ≡ one-if b
+length-if true n = refl
+length-if false n = refl
 
 pub length-keep : (n : ℕ) (p : ℕ → Bool) → length (keepTo n p) ≡ countTo n p
 unfolding keepTo countTo sumTo joinTo
 length-keep zero p = refl
-length-keep (suc n) p = simp length-append (omega (arith, length-keep n p, length-one (p n) n))
+length-keep (suc n) p = simp length-append (omega (arith, length-keep n p, length-if (p n) n))
 
 -- one step of a walk, at n + 1 as the code has it
 pub keep-next : (n : ℕ) (p : ℕ → Bool) → keepTo (n + 1) p ≡ keepTo n p ++ cond (p n) (n ∷ []) []
@@ -79,3 +81,33 @@ kept-at (suc n) i p l = go (decLt i (countTo n p)) (λ l′. kept-at n i p l′)
         let q : i ≡ countTo n p = omega (arith, l, count-step n p, ap one-if e) in
         rw (getD-at (keepTo n p) n [] 0 i (length-keep n p ∙ sym q)) (record { small = omega arith; passes = e; rank = sym q })
     go (no ge) below false e = absurd (omega (arith, l, count-step n p, ap one-if e))
+
+-- the numbers from a on and below b: all that are below b, none, one, and those up to b with those from b on
+pub keep-all : (b : ℕ) (p : ℕ → Bool) → keepFrom 0 b p ≡ keepTo b p
+unfolding keepFrom keepTo
+keep-all b p =
+    let all : b - 0 ≡ b = omega arith in
+    rw all (join-cong b (λ i. cond (p (0 + i)) ((0 + i) ∷ []) []) (λ i. cond (p i) (i ∷ []) []) (λ i l. rw (zero-add i)))
+
+pub keep-no : (a b : ℕ) (p : ℕ → Bool) → ((i : ℕ) → i < b - a → p (a + i) ≡ false) → keepFrom a b p ≡ []
+unfolding keepFrom joinTo
+keep-no a b p none = join-quiet 0 (b - a) (λ i. cond (p (a + i)) ((a + i) ∷ []) []) (omega arith) (λ i h l. rw (none i l))
+
+pub keep-one : (e : ℕ) (p : ℕ → Bool) → keepFrom e (e + 1) p ≡ cond (p e) (e ∷ []) []
+unfolding keepFrom
+keep-one e p =
+    let one : e + 1 - e ≡ 1 = omega arith in
+    let here : e + 0 ≡ e = omega arith in
+    rw (one, join-one (λ i. cond (p (e + i)) ((e + i) ∷ []) []), here)
+
+pub length-one : (e : ℕ) (p : ℕ → Bool) → length (keepFrom e (e + 1) p) ≡ one-if (p e)
+length-one e p = ap length (keep-one e p) ∙ length-if (p e) e
+
+pub keep-on : (a b c : ℕ) (p : ℕ → Bool) → a ≤ b → b ≤ c → keepFrom a c p ≡ keepFrom a b p ++ keepFrom b c p
+unfolding keepFrom
+keep-on a b c p h k =
+    let all : c - a ≡ b - a + (c - b) = omega arith in
+    let f : ℕ → List ℕ = λ i. cond (p i) (i ∷ []) [] in
+    rw all
+    (join-split (b - a) (c - b) (λ i. f (a + i))
+    ∙ ap (λ xs. joinTo (b - a) (λ i. f (a + i)) ++ xs) (join-cong (c - b) (λ i. f (a + (b - a + i))) (λ i. f (b + i)) (λ i l. ap f (omega arith))))

@@ -1,7 +1,7 @@
 -- Sums, joined lists, counts and tests over the numbers below n, taken in rising order.
 use mathlib.Core.List.{List, [], _∷_, _++_}
 use mathlib.Core.Bool.{Bool, true, false, cond, _&&_, _||_}
-use Prim.Native.Nat.{ℕ, zero, suc, _+_}
+use Prim.Native.Nat.{ℕ, zero, suc, _+_, _-_}
 
 abbrev pub one-if : Bool → ℕ
 one-if true = 1
@@ -24,6 +24,10 @@ countTo n p = sumTo n (λ i. one-if (p i))
 -- the numbers below n that pass the test
 unfoldable pub keepTo : ℕ → (ℕ → Bool) → List ℕ
 keepTo n p = joinTo n (λ i. cond (p i) (i ∷ []) [])
+
+-- the numbers from a on and below b that pass the test
+unfoldable pub keepFrom : ℕ → ℕ → (ℕ → Bool) → List ℕ
+keepFrom a b p = joinTo (b - a) (λ i. cond (p (a + i)) ((a + i) ∷ []) [])
 
 -- does every number below n pass the test
 unfoldable pub allTo : ℕ → (ℕ → Bool) → Bool

@@ -13,16 +13,15 @@ use Rattle.laws.proofs.Ranges.{count-split, count-le, count-none}
 use Rattle.grid.specs.Grid.{axes, edgeCount}
 use Rattle.grid.specs.Point.{number, pointEdges}
 use Rattle.grid.specs.Work.{Numbered}
-use Rattle.masks.specs.Masks.{maskAbove}
 use Rattle.rows.specs.declared.Sides.{Sides}
 use Rattle.rows.specs.declared.Cuts.{Cuts}
-use Rattle.rows.specs.Rows.{sizeOf, cut, nextNumber}
+use Rattle.rows.specs.Rows.{sizeOf, wordsAbove, cut, nextNumber}
 use Rattle.pointnumbers.specs.Numbers.{SampleNumbered, NumberedTo}
 use Rattle.rows.proofs.Busy.{Tested}
 
 module _ (sides : Sides) (masks : List ℕ) where
   abbrev rank : ℕ → ℕ
-  rank = number axes (sizeOf sides) (maskAbove (sides .nx) masks)
+  rank = number axes (sizeOf sides) (wordsAbove sides masks)
 
   rank-next : (e : ℕ) → rank (e + 1) ≡ nextNumber (cut sides masks e) (rank e)
   unfolding number
@@ -84,10 +83,10 @@ module _ (sides : Sides) (masks : List ℕ) where
   none-numbered work fits = record { whole = fits; counted = refl; ranks = λ i l t. absurd (omega arith) }
 
   pub all-counted : (n : ℕ) (work : List ℕ) → NumberedTo sides masks (edgeCount axes (sizeOf sides)) n work
-      → n ≡ length (pointEdges axes (sizeOf sides) (maskAbove (sides .nx) masks))
+      → n ≡ length (pointEdges axes (sizeOf sides) (wordsAbove sides masks))
   unfolding number pointEdges
   all-counted n work so = so .counted ∙ sym (length-keep (edgeCount axes (sizeOf sides)) (cut sides masks))
 
   pub all-numbered : (n : ℕ) (work : List ℕ) → NumberedTo sides masks (edgeCount axes (sizeOf sides)) n work
-      → Numbered (sizeOf sides) (maskAbove (sides .nx) masks) work
+      → Numbered (sizeOf sides) (wordsAbove sides masks) work
   all-numbered n work so = record { whole = so .whole; ranks = so .ranks }

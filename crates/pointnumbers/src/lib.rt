@@ -27,6 +27,7 @@ pub fn number(nx: usize, ny: usize, nz: usize, masks: &[u64], work: &mut [u32]) 
         nz,
         words: masks::row_words(nx),
         last: masks::last_mask(nx),
+        below: 0,
     };
     let mut n: u32 = 0;
     let mut z: usize = 0;

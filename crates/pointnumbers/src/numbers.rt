@@ -42,7 +42,7 @@ fn number_stretch(
     masks: &[u64],
     work: &mut [u32],
 ) -> u32
-    requires { ⌜ Ready sides (now masks) ⌝ }
+    requires { ⌜ Ready sides z (now masks) ⌝ }
     requires { ⌜ Stands sides z at ⌝ }
     requires { ⌜ at .y < sides .ny ⌝ }
     requires { ⌜ z < sides .nz ⌝ }
@@ -63,7 +63,7 @@ fn number_stretch(
 
 // The points of one layer.
 pub fn number_layer(sides: Sides, z: usize, from: u32, masks: &[u64], work: &mut [u32]) -> u32
-    requires { ⌜ Ready sides (now masks) ⌝ }
+    requires { ⌜ Ready sides z (now masks) ⌝ }
     requires { ⌜ z < sides .nz ⌝ }
     requires { ⌜ NumberedTo sides (now masks) (3 * layerFirst sides z) from (now work) ⌝ }
     ensures { λ r. ⌜ NumberedTo sides (now (masks .entry)) (3 * layerFirst sides (z + 1)) r (now (work .exit)) ⌝ }

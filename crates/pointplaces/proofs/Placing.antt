@@ -1,53 +1,57 @@
 -- Steps of the placing: a point more, the edges of a sample, and a run of edges that are not crossed.
 use mathlib.Core.Path.{_≡_, refl, ap, fun-ext, _∙_}
-use mathlib.Core.List.{List, [], _∷_, _++_, map, flatMap, map-append, map-map, map-id, append-nil}
+use mathlib.Core.List.{List, [], _∷_, _++_, map, flatMap, map-append, map-map, map-id}
 use mathlib.Core.Bool.{Bool, true, false, cond}
 use Prim.Native.Nat.{ℕ, _+_, _*_, _-_, _/_, _%_, _<_, _≤_}
 use native.Mathlib.Omega.{arith}
-use lib.ListN.{length, length-map}
+use lib.ListN.{length, length-map, length-append}
 use lib.Seq.{sets}
-use Rattle.laws.specs.Range.{one-if, sumTo, countTo, joinTo, keepTo}
 use Rattle.laws.specs.Room.{laid}
-use Rattle.laws.proofs.Keep.{length-keep, keep-next, count-next}
-use Rattle.laws.proofs.Ranges.{count-split, length-flat, count-none, keep-none}
+use Rattle.laws.proofs.Keep.{keep-all, keep-no, keep-one, keep-on}
+use Rattle.laws.proofs.Lists.{flat-map}
+use Rattle.laws.proofs.Ranges.{length-flat}
 use Rattle.laws.proofs.Writes.{sets-front, flat-sets, map-sets}
 use Rattle.grid.specs.Grid.{Size, axes, edgeCount, mark, onFace}
-use Rattle.grid.specs.Point.{number, pointEdges, place, placeFrom}
-use Rattle.masks.specs.Masks.{maskAbove}
+use Rattle.grid.specs.Point.{pointEdges, place, placeFrom}
 use Rattle.rows.specs.declared.Sides.{Sides}
 use Rattle.rows.specs.declared.Cuts.{Cuts}
 use Rattle.edgepoints.specs.declared.Point.{Point}
-use Rattle.rows.specs.Rows.{sizeOf, cut, nextNumber}
-use Rattle.edgepoints.specs.EdgePoint.{PointRooms, coordinates, placedFrom, withPlaced, pointBy, pointFrom, RoomsFor, Placeable}
-use Rattle.pointplaces.specs.Places.{pointAt, pointsBelow, countBelow, SamplePlaced, Advanced}
+use Rattle.rows.specs.Rows.{sizeOf, wordsAbove, gridSamples, cut, nextNumber}
 use Rattle.rows.proofs.Busy.{Tested}
-use Rattle.laws.proofs.Lists.{flat-map}
+use Rattle.edgepoints.specs.EdgePoint.{PointRooms, coordinates, placedFrom, withPlaced, pointBy, pointFrom, RoomsFor, Placeable}
+use Rattle.pointplaces.specs.Places.{pointOf, pointAt, crossings, numberPast, SamplePlaced, Placed}
 
--- rooms that keep their lengths keep their room
+-- room for more is room for fewer, and rooms that keep their lengths keep their room
+pub room-less : {count many : ℕ} {r : PointRooms} → count ≤ many → RoomsFor many r → RoomsFor count r
+room-less h fits = record { points = omega (arith, fits .points); edges = omega (arith, fits .edges); marks = omega (arith, fits .marks) }
+
 pub record SameLengths (before after : PointRooms) : Type 0 where
   pub points : length (after .points) ≡ length (before .points)
   pub edges : length (after .edges) ≡ length (before .edges)
   pub marks : length (after .marks) ≡ length (before .marks)
 
-pub room-kept : (count : ℕ) (before after : PointRooms) → SameLengths before after → RoomsFor count before → RoomsFor count after
-room-kept count before after same fits =
-    record { points = omega (arith, fits .points); edges = omega (arith, fits .edges); marks = omega (arith, fits .marks) }
+pub room-kept : {count : ℕ} {before after : PointRooms} → SameLengths before after → RoomsFor count before → RoomsFor count after
+room-kept same fits = record { points = omega (arith, fits .points); edges = omega (arith, fits .edges); marks = omega (arith, fits .marks) }
 
 -- what it takes to place a point stands when another edge was passed
-pub still-placeable : (size : Size) (samples : List ℕ) (s axis n next : ℕ) (before after : PointRooms) → SameLengths before after → next ≡ n
-    → Placeable size samples s axis n before → Placeable size samples s axis next after
-still-placeable size samples s axis n next before after same is able =
-    rw is record { there = able .there; differ = able .differ; room = room-kept (n + 1) before after same (able .room) }
+pub still-placeable : (size : Size) (samples : List ℕ) (place axis n next : ℕ) (before after : PointRooms) → SameLengths before after → next ≡ n
+    → Placeable size samples place axis n before → Placeable size samples place axis next after
+still-placeable size samples place axis n next before after same is able =
+    rw is record { there = able .there; differ = able .differ; room = room-kept same (able .room) }
 
 -- the three edges of a sample one after the other
 pub sample-steps : (sides : Sides) (grey : ℕ) (samples : List ℕ) (s n : ℕ) (cuts : Cuts) (r : PointRooms) (x y z : ℕ) (past-x past-y past-z : PointRooms)
-    → x ≡ nextNumber (cuts .x) n → past-x ≡ withPlaced (cuts .x) n (pointFrom (sizeOf sides) grey samples s 0) r
-    → y ≡ nextNumber (cuts .y) x → past-y ≡ withPlaced (cuts .y) x (pointFrom (sizeOf sides) grey samples s 1) past-x
-    → z ≡ nextNumber (cuts .z) y → past-z ≡ withPlaced (cuts .z) y (pointFrom (sizeOf sides) grey samples s 2) past-y
+    → x ≡ nextNumber (cuts .x) n → past-x ≡ withPlaced (cuts .x) n (pointOf sides grey samples s 0) r
+    → y ≡ nextNumber (cuts .y) x → past-y ≡ withPlaced (cuts .y) x (pointOf sides grey samples s 1) past-x
+    → z ≡ nextNumber (cuts .z) y → past-z ≡ withPlaced (cuts .z) y (pointOf sides grey samples s 2) past-y
     → SamplePlaced sides grey samples s n z cuts r past-z
 sample-steps sides grey samples s n cuts r x y z past-x past-y past-z nx px ny py nz pz = record { counted = cc; placed = cc }
 
--- points written after others
+-- no points, and points written after others
+written-none : (r : PointRooms) (n : ℕ) → r ≡ placedFrom r n []
+unfolding placedFrom flatMap
+written-none r n = refl
+
 written-append : (r : PointRooms) (n next : ℕ) (ps qs : List Point) → next ≡ n + length ps → placedFrom (placedFrom r n ps) next qs ≡ placedFrom r n (ps ++ qs)
 unfolding placedFrom
 written-append r n next ps qs is = λ i. record {
@@ -56,76 +60,72 @@ written-append r n next ps qs is = λ i. record {
   marks = map-sets (λ p. p .mark) (r .marks) n next ps qs is i;
 }
 
--- one run of edges after another
-pub advanced-on : {sides : Sides} {grey : ℕ} {samples masks : List ℕ} {a b c m n : ℕ} {r s t : PointRooms} → Advanced sides grey samples masks a b m r s
-    → Advanced sides grey samples masks b c n s t → Advanced sides grey samples masks a c n r t
-advanced-on one two = record { counted = two .counted; placed = λ origin held. two .placed origin (one .placed origin held) }
+module _ (sides : Sides) (masks : List ℕ) where
+  -- how many crossed edges there are up to an edge and from it on, of those up to a later one
+  pub crossings-on : (a b c : ℕ) → a ≤ b → b ≤ c → length (crossings sides masks a c) ≡ length (crossings sides masks a b) + length (crossings sides masks b c)
+  crossings-on a b c h k = ap length (keep-on a b c (cut sides masks) h k) ∙ length-append (crossings sides masks a b) (crossings sides masks b c)
+
+  pub number-within : (a b c d n m : ℕ) → a ≤ b → b ≤ c → c ≤ d → m ≡ numberPast sides masks a b n → numberPast sides masks b c m ≤ numberPast sides masks a d n
+  number-within a b c d n m ab bc cd is = omega (arith, crossings-on a b d ab (omega arith), crossings-on b c d bc cd)
 
 module _ (sides : Sides) (grey : ℕ) (samples masks : List ℕ) where
-  abbrev below : ℕ → List Point
-  below = pointsBelow sides grey samples masks
-
   abbrev point : ℕ → Point
-  point = pointAt (sizeOf sides) grey samples
+  point = pointAt sides grey samples
 
-  -- as many as were counted, and one edge more
-  length-below : (e : ℕ) → length (below e) ≡ countBelow sides masks e
-  unfolding pointsBelow number
-  length-below e = length-map (keepTo e (cut sides masks)) point ∙ length-keep e (cut sides masks)
-
-  below-next : (e : ℕ) (b : Bool) → cut sides masks e ≡ b → below (e + 1) ≡ below e ++ cond b (point e ∷ []) []
-  unfolding pointsBelow
-  below-next e true is = ap (map point) (keep-next e (cut sides masks)) ∙ rw is (map-append point (keepTo e (cut sides masks)) (e ∷ []))
-  below-next e false is = ap (map point) (keep-next e (cut sides masks)) ∙ rw is (map-append point (keepTo e (cut sides masks)) [])
-
-  pub count-next-edge : (e : ℕ) → countBelow sides masks (e + 1) ≡ nextNumber (cut sides masks e) (countBelow sides masks e)
-  unfolding number
-  count-next-edge e = count-next e (cut sides masks)
+  -- one run of edges after another
+  pub placed-on : {a b c m n o : ℕ} {r s t : PointRooms} → Placed sides grey samples masks a b m n r s → Placed sides grey samples masks b c n o s t
+      → Placed sides grey samples masks a c m o r t
+  placed-on {a} {b} {c} {m} {n} {o} {r} {s} {t} one two =
+      let first = crossings sides masks a b in
+      let then = crossings sides masks b c in
+      record {
+        rising = omega (arith, one .rising, two .rising);
+        counted = omega (arith, one .counted, two .counted, crossings-on sides masks a b c (one .rising) (two .rising));
+        placed = two .placed
+            ∙ ap (λ room. placedFrom room n (map point then)) (one .placed)
+            ∙ written-append r m n (map point first) (map point then) (omega (arith, one .counted, length-map first point))
+            ∙ ap (placedFrom r m) (rw (keep-on a b c (cut sides masks) (one .rising) (two .rising), map-append point first then));
+      }
 
   -- an edge is passed
-  edge-passed : (e past n : ℕ) (r : PointRooms) (b : Bool) (p : Point) → past ≡ e + 1 → n ≡ countBelow sides masks e → cut sides masks e ≡ b → p ≡ point e
-      → Advanced sides grey samples masks e past (nextNumber b n) r (withPlaced b n p r)
-  edge-passed e past n r b p next counted is here = rw next record {
-    counted = omega (arith, count-next-edge e, ap one-if is, counted);
-    placed = λ origin held. placed b is origin held;
-  }
+  edge-passed : (e past n : ℕ) (r : PointRooms) (b : Bool) (p : Point) → past ≡ e + 1 → cut sides masks e ≡ b → p ≡ point e
+      → Placed sides grey samples masks e past n (nextNumber b n) r (withPlaced b n p r)
+  edge-passed e past n r b p next is here = rw (next, here) (go b is)
     where
-      placed : (b : Bool) → cut sides masks e ≡ b → (origin : PointRooms) → r ≡ placedFrom origin 0 (below e) → withPlaced b n p r ≡ placedFrom origin 0 (below (e + 1))
-      placed true is origin held =
-          rw (held, here, below-next e true is) (written-append origin 0 n (below e) (point e ∷ []) (omega (arith, counted, length-below e)))
-      placed false is origin held = rw (below-next e false is, append-nil) held
+      one : (b : Bool) → cut sides masks e ≡ b → crossings sides masks e (e + 1) ≡ cond b (e ∷ []) []
+      one b is = keep-one e (cut sides masks) ∙ rw is
+
+      go : (b : Bool) → cut sides masks e ≡ b → Placed sides grey samples masks e (e + 1) n (nextNumber b n) r (withPlaced b n (point e) r)
+      go true is = record { rising = omega arith; counted = omega (arith, ap length (one true is)); placed = rw (one true is) }
+      go false is = record { rising = omega arith; counted = omega (arith, ap length (one false is)); placed = rw (one false is) (written-none r n) }
 
   -- a run of edges that are not crossed is passed
-  none-passed : (e n : ℕ) (r : PointRooms) → n ≡ countBelow sides masks e → (len : ℕ) → ((i : ℕ) → i < len → cut sides masks (e + i) ≡ false)
-      → Advanced sides grey samples masks e (e + len) n r r
-  unfolding pointsBelow number
-  none-passed e n r counted len none = record {
-    counted = omega (arith, counted, count-split e len (cut sides masks), count-none len (λ i. cut sides masks (e + i)) none);
-    placed = λ origin held. rw (keep-none e len (cut sides masks) none) held;
-  }
-
-  -- the samples from x up to t are passed, of which no edge is crossed
-  pub samples-passed : (first s x t n : ℕ) (r after : PointRooms) → x ≤ t → Advanced sides grey samples masks first (3 * (s + x)) n r after
-      → ((i : ℕ) → i < 3 * (t - x) → cut sides masks (3 * (s + x) + i) ≡ false) → Advanced sides grey samples masks first (3 * (s + t)) n r after
-  samples-passed first s x t n r after h so none =
-      let q : 3 * (s + t) ≡ 3 * (s + x) + 3 * (t - x) = omega arith in
-      rw q (advanced-on so (none-passed (3 * (s + x)) n after (so .counted) (3 * (t - x)) none))
+  none-passed : (e past n : ℕ) (r : PointRooms) → e ≤ past → ((i : ℕ) → i < past - e → cut sides masks (e + i) ≡ false) → Placed sides grey samples masks e past n n r r
+  none-passed e past n r h none =
+      let no = keep-no e past (cut sides masks) none in
+      record { rising = h; counted = omega (arith, ap length no); placed = rw no (written-none r n) }
 
   -- no edge is passed
-  pub advanced-none : (e n : ℕ) (r : PointRooms) → n ≡ countBelow sides masks e → Advanced sides grey samples masks e e n r r
-  advanced-none e n r counted = record { counted = counted; placed = λ origin held. held }
+  pub placed-none : (e n : ℕ) (r : PointRooms) → Placed sides grey samples masks e e n n r r
+  placed-none e n r = none-passed e e n r (omega arith) (λ i l. absurd (omega arith))
+
+  -- the samples from x up to t are passed, of which no edge is crossed
+  pub samples-passed : (first s x t m n : ℕ) (r after : PointRooms) → x ≤ t → Placed sides grey samples masks first (3 * (s + x)) m n r after
+      → ((i : ℕ) → i < 3 * (t - x) → cut sides masks (3 * (s + x) + i) ≡ false) → Placed sides grey samples masks first (3 * (s + t)) m n r after
+  samples-passed first s x t m n r after h so none =
+      placed-on so (none-passed (3 * (s + x)) (3 * (s + t)) n after (omega arith) (λ i l. none i (omega arith)))
 
   -- the three edges that leave a sample
-  point-of : (s axis e : ℕ) → axis < 3 → e ≡ 3 * s + axis → pointFrom (sizeOf sides) grey samples s axis ≡ point e
+  point-of : (s axis e : ℕ) → axis < 3 → e ≡ 3 * s + axis → pointOf sides grey samples s axis ≡ point e
   unfolding pointAt
   point-of s axis e h is =
       let sample : e / 3 ≡ s = omega arith in
       let along : e % 3 ≡ axis = omega arith in
       rw (sample, along)
 
-  pub sample-passed : (s n next : ℕ) (cuts : Cuts) (r after : PointRooms) → n ≡ countBelow sides masks (3 * s) → Tested sides masks (3 * s) cuts
-      → SamplePlaced sides grey samples s n next cuts r after → Advanced sides grey samples masks (3 * s) (3 * (s + 1)) next r after
-  sample-passed s n next cuts r after counted by step =
+  pub sample-passed : (s n next : ℕ) (cuts : Cuts) (r after : PointRooms) → Tested sides masks (3 * s) cuts → SamplePlaced sides grey samples s n next cuts r after
+      → Placed sides grey samples masks (3 * s) (3 * (s + 1)) n next r after
+  sample-passed s n next cuts r after by step =
       let e = 3 * s in
       let past = 3 * (s + 1) in
       let px = point-of s 0 e (omega arith) (omega arith) in
@@ -133,36 +133,15 @@ module _ (sides : Sides) (grey : ℕ) (samples masks : List ℕ) where
       let pz = point-of s 2 (e + 2) (omega arith) (omega arith) in
       let two : e + 2 ≡ e + 1 + 1 = omega arith in
       let three : past ≡ e + 2 + 1 = omega arith in
-      let x = edge-passed e (e + 1) n r (cuts .x) _ refl counted (by .along-x) px in
-      let y = edge-passed (e + 1) (e + 2) _ _ (cuts .y) _ two (x .counted) (by .along-y) py in
-      let z = edge-passed (e + 2) past _ _ (cuts .z) _ three (y .counted) (by .along-z) pz in
-      rw (step .counted, step .placed) (advanced-on x (advanced-on y z))
-
-  -- before the first edge
-  pub none-below : 0 ≡ countBelow sides masks 0
-  unfolding number countTo sumTo
-  none-below = refl
-
-  none-written : (r : PointRooms) → r ≡ placedFrom r 0 (below 0)
-  unfolding placedFrom pointsBelow keepTo joinTo flatMap
-  none-written r = refl
-
-  -- from the first edge to past the last
-  pub all-placed : (first past n : ℕ) (r after : PointRooms) → first ≡ 0 → past ≡ edgeCount axes (sizeOf sides)
-      → Advanced sides grey samples masks first past n r after → after ≡ placedFrom r 0 (below (edgeCount axes (sizeOf sides)))
-  all-placed first past n r after none all so =
-      let from-first = rw (none, all) at so in
-      from-first .placed r (none-written r)
-
-  -- the rooms hold as many points as there are crossed edges
-  pub room-for-all : (r : PointRooms) → RoomsFor (length (pointEdges axes (sizeOf sides) (maskAbove (sides .nx) masks))) r → RoomsFor (countBelow sides masks (edgeCount axes (sizeOf sides))) r
-  unfolding pointEdges number
-  room-for-all r fits = rw (length-keep (edgeCount axes (sizeOf sides)) (cut sides masks)) at fits
+      let x = edge-passed e (e + 1) n r (cuts .x) _ refl (by .along-x) px in
+      let y = edge-passed (e + 1) (e + 2) _ _ (cuts .y) _ two (by .along-y) py in
+      let z = edge-passed (e + 2) past _ _ (cuts .z) _ three (by .along-z) pz in
+      rw (step .counted, step .placed) (placed-on x (placed-on y z))
 
   -- a point's parts are the definitions' place, edge and mark
-  places-of : (es : List ℕ) → flatMap coordinates (map point es) ≡ flatMap (place axes (sizeOf sides) grey samples) es
+  places-of : (es : List ℕ) → flatMap coordinates (map point es) ≡ flatMap (place axes (sizeOf sides) grey (gridSamples sides samples)) es
   unfolding pointAt pointFrom pointBy place placeFrom
-  places-of es = flat-map coordinates point (place axes (sizeOf sides) grey samples) (λ e. refl) es
+  places-of es = flat-map coordinates point (place axes (sizeOf sides) grey (gridSamples sides samples)) (λ e. refl) es
 
   edges-of : (es : List ℕ) → map (λ p. p .edge) (map point es) ≡ es
   unfolding pointAt pointFrom pointBy
@@ -174,30 +153,38 @@ module _ (sides : Sides) (grey : ℕ) (samples masks : List ℕ) where
   unfolding pointAt pointFrom pointBy mark onFace
   marks-of es = map-map (λ p. p .mark) point es
 
-  length-places : (es : List ℕ) → length (flatMap (place axes (sizeOf sides) grey samples) es) ≡ 3 * length es
+  length-places : (es : List ℕ) → length (flatMap (place axes (sizeOf sides) grey (gridSamples sides samples)) es) ≡ 3 * length es
   unfolding place
-  length-places es = length-flat 3 (place axes (sizeOf sides) grey samples) (λ e. refl) es
+  length-places es = length-flat 3 (place axes (sizeOf sides) grey (gridSamples sides samples)) (λ e. refl) es
+
+  abbrev all : List ℕ
+  all = pointEdges axes (sizeOf sides) (wordsAbove sides masks)
+
+  -- the crossed edges from the first on and up to the last are all
+  pub all-crossings : (first past : ℕ) → first ≡ 0 → past ≡ edgeCount axes (sizeOf sides) → crossings sides masks first past ≡ all
+  unfolding pointEdges
+  all-crossings first past none last = rw (none, last) (keep-all (edgeCount axes (sizeOf sides)) (cut sides masks))
 
   -- past the last edge the points are laid in the rooms
-  module _ (origin r : PointRooms) (held : r ≡ placedFrom origin 0 (below (edgeCount axes (sizeOf sides)))) where
-    abbrev crossings : List ℕ
-    crossings = pointEdges axes (sizeOf sides) (maskAbove (sides .nx) masks)
+  module _ (first past next : ℕ) (none : first ≡ 0) (last : past ≡ edgeCount axes (sizeOf sides)) (origin r : PointRooms)
+      (so : Placed sides grey samples masks first past 0 next origin r) where
+    held : r ≡ placedFrom origin 0 (map point all)
+    held = so .placed ∙ ap (λ es. placedFrom origin 0 (map point es)) (all-crossings first past none last)
 
-    pub places-laid : 3 * length crossings ≤ length (origin .points)
-        → r .points ≡ laid (flatMap (place axes (sizeOf sides) grey samples) crossings) (origin .points)
-    unfolding placedFrom pointsBelow pointEdges
+    pub places-laid : 3 * length all ≤ length (origin .points) → r .points ≡ laid (flatMap (place axes (sizeOf sides) grey (gridSamples sides samples)) all) (origin .points)
+    unfolding placedFrom
     places-laid fits =
         ap (λ r. r .points) held
-        ∙ ap (sets (origin .points) 0) (places-of crossings)
-        ∙ sets-front (origin .points) (flatMap (place axes (sizeOf sides) grey samples) crossings) (omega (arith, length-places crossings))
+        ∙ ap (sets (origin .points) 0) (places-of all)
+        ∙ sets-front (origin .points) (flatMap (place axes (sizeOf sides) grey (gridSamples sides samples)) all) (omega (arith, length-places all))
 
-    pub edges-laid : length crossings ≤ length (origin .edges) → r .edges ≡ laid crossings (origin .edges)
-    unfolding placedFrom pointsBelow pointEdges
-    edges-laid fits = ap (λ r. r .edges) held ∙ ap (sets (origin .edges) 0) (edges-of crossings) ∙ sets-front (origin .edges) crossings fits
+    pub edges-laid : length all ≤ length (origin .edges) → r .edges ≡ laid all (origin .edges)
+    unfolding placedFrom
+    edges-laid fits = ap (λ r. r .edges) held ∙ ap (sets (origin .edges) 0) (edges-of all) ∙ sets-front (origin .edges) all fits
 
-    pub marks-laid : length crossings ≤ length (origin .marks) → r .marks ≡ laid (map (mark axes (sizeOf sides)) crossings) (origin .marks)
-    unfolding placedFrom pointsBelow pointEdges
+    pub marks-laid : length all ≤ length (origin .marks) → r .marks ≡ laid (map (mark axes (sizeOf sides)) all) (origin .marks)
+    unfolding placedFrom
     marks-laid fits =
         ap (λ r. r .marks) held
-        ∙ ap (sets (origin .marks) 0) (marks-of crossings)
-        ∙ sets-front (origin .marks) (map (mark axes (sizeOf sides)) crossings) (omega (arith, length-map crossings (mark axes (sizeOf sides))))
+        ∙ ap (sets (origin .marks) 0) (marks-of all)
+        ∙ sets-front (origin .marks) (map (mark axes (sizeOf sides)) all) (omega (arith, length-map all (mark axes (sizeOf sides))))

@@ -49,6 +49,7 @@ pub fn place(
         nz,
         words: masks::row_words(nx),
         last: masks::last_mask(nx),
+        below: 0,
     };
     let mut n: usize = 0;
     let mut z: usize = 0;

@@ -1,9 +1,8 @@
 // The points' places, grid edges and marks, written to the front of their rooms, stretch by stretch.
-ghost use mathlib.Core.Path.{_≡_};
 ghost use Prim.Native.Nat.{_+_, _*_, _<_};
 ghost use Rattle.rows.specs.Rows.{Stands, ownSamples, layerFirst};
 ghost use Rattle.edgepoints.specs.EdgePoint.{pointRooms, Standing, RoomsFor};
-ghost use Rattle.pointplaces.specs.Places.{SamplePlaceable, SamplePlaced, Given, countBelow, countAll, Advanced};
+ghost use Rattle.pointplaces.specs.Places.{SamplePlaceable, SamplePlaced, Given, numberPast, Placed};
 use edgepoints::Sample;
 use edgepoints::place_edge;
 use rows::Cuts;
@@ -23,7 +22,7 @@ fn place_sample(
     marks: &mut [u8],
 ) -> usize
     requires { ⌜ Standing sides at ⌝ }
-    requires { ⌜ SamplePlaceable sides (now samples) (at .s) from cuts (pointRooms (now points) (now edges) (now marks)) ⌝ }
+    requires { ⌜ SamplePlaceable sides (now samples) (at .place) from cuts (pointRooms (now points) (now edges) (now marks)) ⌝ }
     ensures { λ r. ⌜ SamplePlaced sides grey (now (samples .entry)) (at .s) from r cuts
         (pointRooms (now (points .entry)) (now (edges .entry)) (now (marks .entry)))
         (pointRooms (now (points .exit)) (now (edges .exit)) (now (marks .exit))) ⌝ }
@@ -57,18 +56,18 @@ fn place_stretch(
     edges: &mut [u32],
     marks: &mut [u8],
 ) -> usize
-    requires { ⌜ Given sides grey (now samples) (now masks) ⌝ }
+    requires { ⌜ Given sides z grey (now samples) (now masks) ⌝ }
     requires { ⌜ Stands sides z at ⌝ }
     requires { ⌜ at .y < sides .ny ⌝ }
     requires { ⌜ z < sides .nz ⌝ }
-    requires { ⌜ RoomsFor (countAll sides (now masks)) (pointRooms (now points) (now edges) (now marks)) ⌝ }
-    requires { ⌜ from ≡ countBelow sides (now masks) (3 * at .s) ⌝ }
-    ensures { λ r. ⌜ Advanced sides grey (now (samples .entry)) (now (masks .entry)) (3 * at .s) (3 * (at .s + ownSamples (at .left))) r
+    requires { ⌜ RoomsFor (numberPast sides (now masks) (3 * at .s) (3 * (at .s + ownSamples (at .left))) from) (pointRooms (now points) (now edges) (now marks)) ⌝ }
+    ensures { λ r. ⌜ Placed sides grey (now (samples .entry)) (now (masks .entry)) (3 * at .s) (3 * (at .s + ownSamples (at .left))) from r
         (pointRooms (now (points .entry)) (now (edges .entry)) (now (marks .entry)))
         (pointRooms (now (points .exit)) (now (edges .exit)) (now (marks .exit))) ⌝ }
 {
     let crossed = rows::crossed_at(sides, at, z, masks);
     let before = sides.nx - at.left;
+    let place = at.s - sides.nx * (sides.ny * sides.below);
     let mut busy = crossed.x | crossed.y | crossed.z;
     let mut n = from;
     while busy != 0 {
@@ -76,6 +75,7 @@ fn place_stretch(
         let along = i as usize;
         let sample = Sample {
             s: at.s + along,
+            place: place + along,
             x: before + along,
             y: at.y,
             z,
@@ -87,7 +87,7 @@ fn place_stretch(
     n
 }
 
-// The points of one layer.
+// The points of one layer, from a number on. Answers the number after the last.
 pub fn place_layer(
     sides: Sides,
     grey: u16,
@@ -99,11 +99,10 @@ pub fn place_layer(
     edges: &mut [u32],
     marks: &mut [u8],
 ) -> usize
-    requires { ⌜ Given sides grey (now samples) (now masks) ⌝ }
+    requires { ⌜ Given sides z grey (now samples) (now masks) ⌝ }
     requires { ⌜ z < sides .nz ⌝ }
-    requires { ⌜ RoomsFor (countAll sides (now masks)) (pointRooms (now points) (now edges) (now marks)) ⌝ }
-    requires { ⌜ from ≡ countBelow sides (now masks) (3 * layerFirst sides z) ⌝ }
-    ensures { λ r. ⌜ Advanced sides grey (now (samples .entry)) (now (masks .entry)) (3 * layerFirst sides z) (3 * layerFirst sides (z + 1)) r
+    requires { ⌜ RoomsFor (numberPast sides (now masks) (3 * layerFirst sides z) (3 * layerFirst sides (z + 1)) from) (pointRooms (now points) (now edges) (now marks)) ⌝ }
+    ensures { λ r. ⌜ Placed sides grey (now (samples .entry)) (now (masks .entry)) (3 * layerFirst sides z) (3 * layerFirst sides (z + 1)) from r
         (pointRooms (now (points .entry)) (now (edges .entry)) (now (marks .entry)))
         (pointRooms (now (points .exit)) (now (edges .exit)) (now (marks .exit))) ⌝ }
 {

@@ -1,7 +1,7 @@
 // The rows of a grid in words, word after word, and which of the edges that leave a sample are crossed.
 ghost use mathlib.Core.Path.{_≡_};
 ghost use mathlib.Core.Bool.{true, cond};
-ghost use Prim.Native.Nat.{_<_};
+ghost use Prim.Native.Nat.{_<_, _≤_};
 ghost use lib.ListN.{length, getD};
 ghost use Rattle.laws.specs.Bits.{wordBits};
 ghost use Rattle.grid.specs.Work.{SidesFit};
@@ -13,16 +13,17 @@ use masks::WORD_SAMPLES;
 // The mask of all cubes of a word.
 const ALL_CUBES: u64 = 0x7fff_ffff_ffff_ffff;
 
-// The sides of a grid, how many words a row has, and the mask of the samples of a row's last word.
+// The sides of a grid, how many words a row has, the mask of the samples of a row's last word, and how many layers lie below the first whose words and samples are lent.
 pub struct Sides {
     pub nx: usize,
     pub ny: usize,
     pub nz: usize,
     pub words: usize,
     pub last: u64,
+    pub below: usize,
 }
 
-// A stretch of a row, which is what one word has of it: how many samples the row has from its first on, its first sample's y and number, and its word's place.
+// A stretch of a row, which is what one word has of it: how many samples the row has from its first on, its first sample's y and number in the grid, and its word's place among those lent.
 pub struct Stretch {
     pub left: usize,
     pub y: usize,
@@ -62,15 +63,14 @@ impl Crossed {
 pub fn first(sides: Sides, z: usize) -> Stretch
     requires { ⌜ SidesFit (sides .nx) (sides .ny) (sides .nz) ⌝ }
     requires { ⌜ sides .words ≡ rowWords (sides .nx) ⌝ }
-    requires { ⌜ z < sides .nz ⌝ }
+    requires { ⌜ (sides .below ≤ z) × (z < sides .nz) ⌝ }
     ensures { λ r. ⌜ r ≡ firstStretch sides z ⌝ }
 {
-    let row = sides.ny * z;
     Stretch {
         left: sides.nx,
         y: 0,
-        s: sides.nx * row,
-        word: sides.words * row,
+        s: sides.nx * (sides.ny * z),
+        word: sides.words * (sides.ny * (z - sides.below)),
     }
 }
 
@@ -128,7 +128,7 @@ fn neighbour(there: bool, word: usize, here: u64, masks: &[u64]) -> u64
 
 // The crossed edges of a stretch's own samples.
 pub fn crossed_at(sides: Sides, at: Stretch, z: usize, masks: &[u64]) -> Crossed
-    requires { ⌜ Ready sides (now masks) ⌝ }
+    requires { ⌜ Ready sides z (now masks) ⌝ }
     requires { ⌜ Stands sides z at ⌝ }
     requires { ⌜ at .y < sides .ny ⌝ }
     requires { ⌜ z < sides .nz ⌝ }

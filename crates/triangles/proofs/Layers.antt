@@ -66,9 +66,9 @@ module _ (offsets names : List ℕ) (sides : Sides) (masks : List ℕ) (z : ℕ)
       )
 
   -- what is written for a stretch are the triangles of its cubes
-  module _ (ready : Ready sides masks) (at : Stretch) (stands : Stands sides z at) (hy : at .y + 1 < sides .ny) (hz : z + 1 < sides .nz) where
+  module _ (ready : Ready sides z masks) (at : Stretch) (stands : Stands sides z at) (hy : at .y + 1 < sides .ny) (hz : z + 1 < sides .nz) where
     abbrev here : Corners
-    here = corners sides masks ready z at stands hy hz
+    here = corners sides masks z ready at stands hy hz
 
     edge-is : (i : ℕ) → 3 * at .s + 3 * i ≡ 3 * (firstX sides at + i + sides .nx * (at .y + sides .ny * z))
     edge-is i = omega (arith, stands .site, first-x sides z at stands)
@@ -83,12 +83,12 @@ module _ (offsets names : List ℕ) (sides : Sides) (masks : List ℕ) (z : ℕ)
         many = ownCubes (at .left)
 
         past : (i : ℕ) → many ≤ i → i < wordBits → busyNames offsets names here busy (3 * at .s) i ≡ []
-        past i h k = ap (λ b. cond b (cubeNames offsets names (3 * at .s + 3 * i) (wordCase here i)) []) (past-quiet sides masks ready z at stands hy hz busy by i h)
+        past i h k = ap (λ b. cond b (cubeNames offsets names (3 * at .s + 3 * i) (wordCase here i)) []) (past-quiet sides masks z ready at stands hy hz busy by i h)
 
         own : (i : ℕ) → i < many → (b : Bool) → bit busy i ≡ b
             → cond b (cubeNames offsets names (3 * at .s + 3 * i) (wordCase here i)) [] ≡ cube (firstX sides at + i) (at .y)
-        own i l true e = ap₂ (cubeNames offsets names) (edge-is i) (cube-is sides masks ready z at stands hy hz i l)
-        own i l false e = sym (cube-quiet offsets names _ _ (own-quiet sides masks ready z at stands hy hz busy by i l e))
+        own i l true e = ap₂ (cubeNames offsets names) (edge-is i) (cube-is sides masks z ready at stands hy hz i l)
+        own i l false e = sym (cube-quiet offsets names _ _ (own-quiet sides masks z ready at stands hy hz busy by i l e))
 
     -- the room for it, and what then holds at the next stretch
     module _ (busy : ℕ) (by : BusyCubes here (cubesMask sides (at .left)) busy) {entry mid : List ℕ} {from to : ℕ}
@@ -98,7 +98,7 @@ module _ (offsets names : List ℕ) (sides : Sides) (masks : List ℕ) (z : ℕ)
           let most = cubes-most sides z at stands in
           record {
             named = λ i e set h.
-                let l = own-busy sides masks ready z at stands hy hz busy by i set in
+                let l = own-busy sides masks z ready at stands hy hz busy by i set in
                 rw (edge-is i) (room .named (firstX sides at + i) (at .y) e (omega (arith, most, stands .along)) hy h);
             holds = rw (is, stretch-names busy by)
                 (written-room (namedTo offsets names sides masks z (firstX sides at) (at .y)) _ _ w
@@ -113,7 +113,7 @@ module _ (offsets names : List ℕ) (sides : Sides) (masks : List ℕ) (z : ℕ)
           go : Within sides (firstX sides (nextStretch sides at)) (nextStretch sides at .y)
               × Written entry exit from (namedTo offsets names sides masks z (firstX sides (nextStretch sides at)) (nextStretch sides at .y)) next
           go =
-              cubes-next sides masks ready z at stands (λ x y. Within sides x y × Written entry exit from (namedTo offsets names sides masks z x y) next)
+              cubes-next sides masks z ready at stands (λ x y. Within sides x y × Written entry exit from (namedTo offsets names sides masks z x y) next)
               (λ p. ((hy, λ e. refl), rw (← (named-row (at .y))) (p .1))) (
                 (omega arith, λ e. absurd (omega arith)),
                 rw (← (named-on (firstX sides at) (at .y) (ownCubes (at .left))), ← (stretch-names busy by), ← is)

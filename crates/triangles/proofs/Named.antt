@@ -21,9 +21,8 @@ use Rattle.grid.specs.Mesh.{cornerSite, gridEdge, caseAt, cubeTriangles, edgeMe
 use Rattle.grid.specs.Work.{SidesFit, nameOf, Nameable, NamesFit}
 use Rattle.grid.proofs.Sides.{samples-most}
 use Rattle.grid.proofs.Edges.{grid-edge-small}
-use Rattle.masks.specs.Masks.{maskAbove}
 use Rattle.rows.specs.declared.Sides.{Sides}
-use Rattle.rows.specs.Rows.{sizeOf}
+use Rattle.rows.specs.Rows.{sizeOf, wordsAbove}
 use Rattle.triangles.specs.Names.{edgeOffset, cornerName, cubeNames, gridNames, layerNames}
 use Rattle.triangles.specs.Walk.{Written}
 use Rattle.triangles.proofs.Table.{corners-crossed}
@@ -34,7 +33,7 @@ module _ (sides : Sides) (masks names offsets : List ℕ) (right : offsets ≡ m
   n = sizeOf sides
 
   abbrev above : ℕ → Bool
-  above = maskAbove (sides .nx) masks
+  above = wordsAbove sides masks
 
   abbrev all : List ℕ
   all = joinTo (sides .nz - 1) (layerNames offsets names sides masks)

@@ -133,7 +133,7 @@ fn write_layer(
 ) -> usize
     requires { ⌜ Rows (now rows) ⌝ }
     requires { ⌜ Counts (now counts) ⌝ }
-    requires { ⌜ Ready sides (now masks) ⌝ }
+    requires { ⌜ Ready sides z (now masks) ⌝ }
     requires { ⌜ z + 1 < sides .nz ⌝ }
     requires { ⌜ LayerRoom (now offsets) (now names) (now triangles) sides (now masks) z from ⌝ }
     ensures { λ r. ⌜ Written (now (triangles .entry)) (now (triangles .exit)) from (layerNames (now (offsets .entry)) (now (names .entry)) sides (now (masks .entry)) z) r ⌝ }
@@ -180,6 +180,7 @@ pub fn write(nx: usize, ny: usize, nz: usize, masks: &[u64], names: &[u32], tria
         nz,
         words: masks::row_words(nx),
         last: masks::last_mask(nx),
+        below: 0,
     };
     let last = nz - 1;
     let mut to = 0;

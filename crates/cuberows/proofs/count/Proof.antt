@@ -6,6 +6,7 @@ use borrow.Author.Needs.{needs}
 use Rattle.laws.specs.Range.{sumTo}
 use Rattle.laws.proofs.Ranges.{sum-next}
 use Rattle.rows.specs.declared.Sides.{Sides}
+use Rattle.rows.proofs.Stretches.{whole-ready}
 use Rattle.cuberows.specs.Cubes.{layerCount}
 use Rattle.cuberows.proofs.Layers.{layers-most, mesh-count}
 use Rattle.cuberows.proofs.count.Statement.{statement}
@@ -37,14 +38,15 @@ loop-holds c = (omega arith, refl)
 abbrev sides : tie.After-last-mask Inv-loop μ-loop → Sides
 sides c =
     let a = c .before .before .before .before .args in
-    record { nx = a .nx; ny = a .ny; nz = a .nz; words = c .before .row-words .result; last = c .last-mask .result }
+    record { nx = a .nx; ny = a .ny; nz = a .nz; words = c .before .row-words .result; last = c .last-mask .result; below = 0 }
 
 count-layer-requires : tie.Need-count-layer-requires Inv-loop μ-loop
 count-layer-requires c κs =
-    let s = c .before .before .before .before .before .before .before in (
+    let m = c .before .before .before in
+    let s = m .before .before .before .before in (
       c .before .before .before .before .before .counts .ensures,
       (
-        record { fit = s .pre .0; words = c .before .before .before .before .row-words .ensures; last = c .before .before .before .last-mask .ensures; rows = s .pre .1 .0; agree = s .pre .1 .1 },
+        whole-ready (sides m) (s .args .masks .now) refl (s .pre .0) (m .before .row-words .ensures) (m .last-mask .ensures) (s .pre .1 .0) (s .pre .1 .1) _ (omega (arith, c .before)),
         omega (arith, c .before),
       ),
     )

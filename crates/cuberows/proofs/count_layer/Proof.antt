@@ -2,10 +2,10 @@
 use mathlib.Core.Path.{_≡_, refl, ap, ap₂, subst⁻¹, _∙_}
 use Prim.Native.Nat.{_+_, _*_, _-_}
 use native.Mathlib.Omega.{arith}
+use lib.ListN.{length}
 use borrow.Author.Needs.{needs}
 use Rattle.laws.proofs.Ranges.{sum-split}
 use Rattle.cube.specs.Answer.{count}
-use Rattle.masks.specs.Masks.{rowWords}
 use Rattle.rows.specs.Rows.{Stands, firstX, ownCubes, cubesMask, firstStretch}
 use Rattle.rows.proofs.Stretches.{stands-first, stands-next, word-there, stretch-addable, cubes-most}
 use Rattle.cuberows.specs.Cubes.{cornersAt, BusyCubes, stretchCount, cubeCase}
@@ -17,12 +17,12 @@ abbrev Inv-loop : tie.InvT-loop
 Inv-loop counts sides z masks at₀ sum₀ at sum = Stands sides z at × Within sides (firstX sides at) (at .y) × (sum ≡ countedTo sides masks z (firstX sides at) (at .y))
 
 abbrev μ-loop : tie.MeasureT-loop
-μ-loop counts sides z masks at₀ sum₀ at sum = rowWords (sides .nx) * (sides .ny * sides .nz) - at .word
+μ-loop counts sides z masks at₀ sum₀ at sum = length masks - at .word
 
 first-requires : tie.Need-first-requires Inv-loop μ-loop
 first-requires c κs =
     let s = c .before in
-    (s .pre .1 .0 .fit, (s .pre .1 .0 .words, omega (arith, s .pre .1 .1)))
+    (s .pre .1 .0 .fit, (s .pre .1 .0 .words, (s .pre .1 .0 .from, omega (arith, s .pre .1 .1))))
 
 loop-holds : tie.Need-loop-holds Inv-loop μ-loop
 loop-holds c =
@@ -32,7 +32,7 @@ loop-holds c =
     let none : firstX (a .sides) (firstStretch (a .sides) (a .z)) ≡ 0 = omega arith in
     subst⁻¹ (λ at. Stands (a .sides) (a .z) at × Within (a .sides) (firstX (a .sides) at) (at .y) × (0 ≡ countedTo (a .sides) (a .masks .now) (a .z) (firstX (a .sides) at) (at .y)))
     (c .first .ensures) (
-      stands-first (a .sides) (ready .fit) (ready .words) (a .z),
+      stands-first (a .sides) (ready .fit) (ready .words) (a .z) (ready .from),
       (omega (arith, ready .fit .least-y), λ e. none),
       rw none (counted-none (a .sides) (a .masks .now) (a .z)),
     )
@@ -48,7 +48,7 @@ corners-at-requires : tie.Need-corners-at-requires Inv-loop μ-loop
 corners-at-requires c κs =
     let s = begun c in
     let l = c .before .before .before .loop in
-    corners-there (s .args .sides) (s .args .masks .now) (s .pre .1 .0) (s .args .z) (l .at) (l .inv .0) (c .if1 .taken) (s .pre .1 .1)
+    corners-there (s .args .sides) (s .args .masks .now) (s .args .z) (s .pre .1 .0) (l .at) (l .inv .0) (c .if1 .taken) (s .pre .1 .1)
 
 cubes-mask-requires : tie.Need-cubes-mask-requires Inv-loop μ-loop
 cubes-mask-requires c κs = search needs
@@ -80,7 +80,7 @@ added c =
       l .inv .2,
       c .count-stretch .ensures,
       mine,
-      stretch-count (a .sides) (a .masks .now) (s .pre .1 .0) (a .z) (l .at) (l .inv .0) (here .if1 .taken) (s .pre .1 .1) (c .before .busy .result) busy,
+      stretch-count (a .sides) (a .masks .now) (a .z) (s .pre .1 .0) (l .at) (l .inv .0) (here .if1 .taken) (s .pre .1 .1) (c .before .busy .result) busy,
       sum-split (firstX (a .sides) (l .at)) (ownCubes (l .at .left)) (λ x. count (cubeCase (a .sides) (a .masks .now) (a .z) x (l .at .y))),
     )
 
@@ -114,7 +114,7 @@ loop-less c =
     let here = c .before .before .before .before .before in
     let s = begun here in
     let l = here .before .before .before .loop in
-    omega (arith, ap (λ at. at .word) (c .next .ensures), word-there (s .args .sides) (s .args .z) (l .at) (l .inv .0) (l .inv .1 .0) (omega (arith, s .pre .1 .1)))
+    omega (arith, ap (λ at. at .word) (c .next .ensures), word-there (s .args .sides) (s .args .masks .now) (s .args .z) (s .pre .1 .0) (l .at) (l .inv .0) (l .inv .1 .0))
 
 loop-again : tie.Need-loop-again Inv-loop μ-loop
 loop-again c =
@@ -124,7 +124,7 @@ loop-again c =
     let l = here .before .before .before .loop in
     let sum = l .sum + c .before .count-stretch .result in
     let next =
-    cubes-next (a .sides) (a .masks .now) (s .pre .1 .0) (a .z) (l .at) (l .inv .0)
+    cubes-next (a .sides) (a .masks .now) (a .z) (s .pre .1 .0) (l .at) (l .inv .0)
     (λ x y. Within (a .sides) x y × (sum ≡ countedTo (a .sides) (a .masks .now) (a .z) x y))
     (λ p. ((here .if1 .taken, λ e. refl), p .1 ∙ counted-row (a .sides) (a .masks .now) (a .z) (l .at .y)))
     ((l .inv .1 .0, λ e. absurd (omega (arith, here .if1 .taken))), added (c .before)) in

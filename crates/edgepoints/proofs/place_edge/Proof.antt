@@ -28,15 +28,15 @@ crossed-here c = not-false _ (c .if1 .left)
 
 able : (c : tie.Else1)
     → let a = start c .args in
-    Placeable (sizeOf (a .sides)) (now (a .samples)) (a .at .s) (a .axis) (a .n) (pointRooms (now (a .points)) (now (a .edges)) (now (a .marks)))
+    Placeable (sizeOf (a .sides)) (now (a .samples)) (a .at .place) (a .axis) (a .n) (pointRooms (now (a .points)) (now (a .edges)) (now (a .marks)))
 able c = start c .pre .1 .1 (crossed-here c)
 
 -- the other end is a sample too, and differs
-other-there : (c : tie.After-step-of) → let a = start (c .before) .args in a .at .s + c .step-of .result < length (now (a .samples))
+other-there : (c : tie.After-step-of) → let a = start (c .before) .args in a .at .place + c .step-of .result < length (now (a .samples))
 other-there c = rw (c .step-of .ensures) (able (c .before) .there)
 
 others-differ : (c : tie.After-step-of) → let a = start (c .before) .args in
-    getD (now (a .samples)) (a .at .s) 0 ≡ getD (now (a .samples)) (a .at .s + c .step-of .result) 0 → ⊥
+    getD (now (a .samples)) (a .at .place) 0 ≡ getD (now (a .samples)) (a .at .place + c .step-of .result) 0 → ⊥
 others-differ c = rw (c .step-of .ensures) (able (c .before) .differ)
 
 -- the rooms as they come, and past the write
@@ -73,8 +73,8 @@ point-on-requires : tie.Need-point-on-requires
 point-on-requires c κs =
     let step = c .before .before .before in
     let s = start (step .before) in
-    let v0 = c .before .before .shared-slice-known2 .given (s .args .at .s) .fits in
-    let v1 = c .before .shared-slice-known3 .given (s .args .at .s + step .step-of .result) .fits in
+    let v0 = c .before .before .shared-slice-known2 .given (s .args .at .place) .fits in
+    let v1 = c .before .shared-slice-known3 .given (s .args .at .place + step .step-of .result) .fits in
     (s .pre .0, (s .pre .1 .0, rw (c .offset .ensures) (offset-fits _ _ _ v0 v1 (s .fits .grey .fits))))
 
 write-point-requires : tie.Need-write-point-requires
@@ -104,7 +104,8 @@ returns-2 c =
     let a = s .args in
     rw (crossed-here (step .before)) (
       refl,
-      point-written (sizeOf (a .sides)) (a .grey) (now (a .samples)) (a .at .s) (a .axis) (step .step-of .result) (a .n) (o .offset .result) (p .point-on .result) (first-rooms s) (past w)
+      point-written (a .sides) (a .grey) (now (a .samples)) (a .at .s) (a .at .place) (a .axis) (step .step-of .result) (a .n) (o .offset .result) (p .point-on .result) (first-rooms s) (past w)
+          (s .pre .0 .lent)
           (step .step-of .ensures)
           (o .offset .ensures)
           (p .point-on .ensures)

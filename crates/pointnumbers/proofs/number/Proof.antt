@@ -1,10 +1,10 @@
 -- `pointnumbers::number` meets its contract. The invariant: the edges before the layer at z are numbered. Assumes nothing.
-use mathlib.Core.Path.{_≡_, sym, subst, _∙_}
+use mathlib.Core.Path.{_≡_, refl, sym, subst, _∙_}
 use Prim.Native.Nat.{_*_, _-_, _≤_}
 use native.Mathlib.Omega.{arith}
 use Rattle.rows.specs.declared.Sides.{Sides}
 use Rattle.rows.specs.Rows.{layerFirst}
-use Rattle.rows.proofs.Stretches.{layer-first}
+use Rattle.rows.proofs.Stretches.{whole-ready, layer-first}
 use Rattle.pointnumbers.specs.Numbers.{NumberedTo}
 use Rattle.pointnumbers.proofs.Numbering.{none-numbered, all-counted, all-numbered}
 use Rattle.pointnumbers.proofs.number.Statement.{statement}
@@ -23,7 +23,7 @@ start m = m .before .before .before .before
 abbrev sides : tie.After-last-mask Inv-loop μ-loop → Sides
 sides m =
     let a = start m .args in
-    record { nx = a .nx; ny = a .ny; nz = a .nz; words = m .before .row-words .result; last = m .last-mask .result }
+    record { nx = a .nx; ny = a .ny; nz = a .nz; words = m .before .row-words .result; last = m .last-mask .result; below = 0 }
 
 row-words-requires : tie.Need-row-words-requires Inv-loop μ-loop
 row-words-requires c κs = c .before .before .pre .0 .least-x
@@ -41,7 +41,7 @@ number-layer-requires c κs =
     let l = c .before .before in
     let m = l .before in
     let s = start m in (
-      record { fit = s .pre .0; words = m .before .row-words .ensures; last = m .last-mask .ensures; rows = s .pre .1 .0; agree = s .pre .1 .1 .0 },
+      whole-ready (sides m) (s .args .masks .now) refl (s .pre .0) (m .before .row-words .ensures) (m .last-mask .ensures) (s .pre .1 .0) (s .pre .1 .1 .0) (l .loop .z) (omega arith),
       (omega arith, l .loop .inv .1),
     )
 

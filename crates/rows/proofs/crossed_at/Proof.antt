@@ -1,6 +1,6 @@
 -- `rows::crossed_at` meets its contract: the law of its words. A stretch of the grid has its word, and so have its neighbours where they are there. Assumes nothing.
 use mathlib.Core.Path.{_≡_}
-use Prim.Native.Nat.{ℕ, _+_, _*_, _<_, _≤_}
+use Prim.Native.Nat.{_*_, _<_, _≤_}
 use native.Mathlib.Nat.{mul-le-mul-left}
 use native.Mathlib.Omega.{arith}
 use lib.ListN.{length}
@@ -8,17 +8,14 @@ use borrow.Author.Needs.{needs}
 use borrow.Author.Tests.{ltb-true}
 use Rattle.laws.proofs.Digits.{block-end}
 use Rattle.masks.specs.Masks.{rowWords, mostWords}
-use Rattle.rows.proofs.Stretches.{words-most, word-in, row-there, behind-is, over-is, behind-there, over-there}
+use Rattle.rows.proofs.Stretches.{words-most, behind-is, over-is, among, behind-there, over-there, word-there}
 use Rattle.rows.proofs.Cut.{cut-words}
 use Rattle.rows.proofs.crossed_at.Statement.{statement}
 use Rattle.rows.proofs.crossed_at.Tie as tie
 
--- the stretch's word in a row of the grid is among the words
-among : (s : tie.Start) (r : ℕ) → r < s .args .sides .ny * s .args .sides .nz → {word : ℕ} → word ≡ s .pre .1 .0 .past + s .args .sides .words * r → word < length (s .args .masks .now)
-among s r there is = omega (arith, is, s .pre .0 .rows, word-in (s .args .sides) (s .args .z) (s .args .at) (s .pre .1 .0) r there)
-
+-- the stretch's word is among the words
 own-among : (s : tie.Start) → s .args .at .word < length (s .args .masks .now)
-own-among s = let a = s .args in among s _ (row-there (a .sides) (a .z) (a .at) (s .pre .1 .0) (s .pre .1 .1 .0) (s .pre .1 .1 .1)) (s .pre .1 .0 .word)
+own-among s = let a = s .args in word-there (a .sides) (a .masks .now) (a .z) (s .pre .0) (a .at) (s .pre .1 .0) (s .pre .1 .1 .0)
 
 -- a row's words, and a layer's, are few
 words-few : (s : tie.Start) → s .args .sides .words * s .args .sides .ny ≤ mostWords
@@ -47,7 +44,9 @@ neighbour-requires : tie.Need-neighbour-requires
 neighbour-requires c κs there =
     let s = c .before .before .before .before .before in
     let a = s .args in
-    among s _ (behind-there (a .sides) (a .z) (a .at) (s .pre .1 .0) (s .pre .1 .1 .0) (s .pre .1 .1 .1) (ltb-true _ _ there)) (behind-is (a .sides) (a .z) (a .at) (s .pre .1 .0))
+    let stands = s .pre .1 .0 in
+    among (a .sides) (a .masks .now) (a .z) (s .pre .0) (a .at) stands _ (behind-there (a .sides) (a .masks .now) (a .z) (s .pre .0) (a .at) stands (ltb-true _ _ there))
+    (behind-is (a .sides) (a .z) (a .at) stands)
 
 add-neighbour-3 : tie.Need-add-neighbour-3
 add-neighbour-3 c = search needs
@@ -62,7 +61,9 @@ neighbour-requires-2 : tie.Need-neighbour-requires-2
 neighbour-requires-2 c κs there =
     let s = c .before .before .before .before .before .before .before .before in
     let a = s .args in
-    among s _ (over-there (a .sides) (a .z) (a .at) (s .pre .1 .0) (s .pre .1 .1 .0) (s .pre .1 .1 .1) (ltb-true _ _ there)) (over-is (a .sides) (a .z) (a .at) (s .pre .1 .0))
+    let stands = s .pre .1 .0 in
+    among (a .sides) (a .masks .now) (a .z) (s .pre .0) (a .at) stands _ (over-there (a .sides) (a .masks .now) (a .z) (s .pre .0) (a .at) stands (s .pre .1 .1 .0) (ltb-true _ _ there))
+    (over-is (a .sides) (a .z) (a .at) stands)
 
 samples-mask-requires : tie.Need-samples-mask-requires
 samples-mask-requires c κs = search needs
@@ -75,7 +76,7 @@ returns c =
     let s = c .before .before .before .before .before .before .before .before .before .before .before in
     let a = s .args in
     rw (c .cubes-mask .ensures, c .before .samples-mask .ensures, c .before .before .neighbour2 .ensures, c .before .before .before .before .before .neighbour .ensures)
-    (cut-words (a .sides) (a .masks .now) (s .pre .0) (a .z) (a .at) (s .pre .1 .0) (s .pre .1 .1 .0) (s .pre .1 .1 .1))
+    (cut-words (a .sides) (a .masks .now) (a .z) (s .pre .0) (a .at) (s .pre .1 .0) (s .pre .1 .1 .0) (s .pre .1 .1 .1))
 
 pub crossed-at-spec : {M : Type 1} → statement M
 crossed-at-spec =

@@ -1,5 +1,5 @@
 -- `triangles::write` meets its contract. The loop's invariant: the layers passed are written. Assumes nothing.
-use mathlib.Core.Path.{_≡_, subst}
+use mathlib.Core.Path.{_≡_, refl, subst}
 use mathlib.Core.List.{List}
 use Prim.Native.Nat.{ℕ, _+_, _-_, _≤_}
 use native.Mathlib.Omega.{arith}
@@ -8,6 +8,7 @@ use lib.ListN.{length}
 use Rattle.laws.specs.Range.{joinTo}
 use Rattle.laws.proofs.Ranges.{join-zero, join-next, join-room}
 use Rattle.rows.specs.declared.Sides.{Sides}
+use Rattle.rows.proofs.Stretches.{whole-ready}
 use Rattle.triangles.specs.Names.{layerNames}
 use Rattle.triangles.specs.Walk.{LayerRoom, Written}
 use Rattle.triangles.proofs.Names.{written-none, written-on, written-room, written-length}
@@ -47,7 +48,7 @@ begun c = c .before .before .before .before .before .before .before .before
 abbrev sides : tie.After-last-mask Inv-loop μ-loop → Sides
 sides c =
     let a = begun c .args in
-    record { nx = a .nx; ny = a .ny; nz = a .nz; words = c .before .row-words .result; last = c .last-mask .result }
+    record { nx = a .nx; ny = a .ny; nz = a .nz; words = c .before .row-words .result; last = c .last-mask .result; below = 0 }
 
 abbrev offsets : tie.After-last-mask Inv-loop μ-loop → List ℕ
 offsets c = c .before .before .edge-offsets .result
@@ -87,7 +88,7 @@ write-layer-requires c κs =
       (
         c .before .before .before .before .before .before .before .before .before .counts .ensures,
         (
-          record { fit = s .pre .0; words = m .before .row-words .ensures; last = m .last-mask .ensures; rows = s .pre .1 .0; agree = s .pre .1 .1 .0 },
+          whole-ready (sides m) (s .args .masks .now) refl (s .pre .0) (m .before .row-words .ensures) (m .last-mask .ensures) (s .pre .1 .0) (s .pre .1 .1 .0) (here .before .loop .z) (omega (arith, here)),
           (omega (arith, here), room-here here),
         ),
       ),

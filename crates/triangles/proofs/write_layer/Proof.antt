@@ -2,9 +2,9 @@
 use mathlib.Core.Path.{_≡_, ap, ap₂, subst, subst⁻¹, _∙_}
 use Prim.Native.Nat.{_*_, _-_}
 use native.Mathlib.Omega.{arith}
+use lib.ListN.{length}
 use borrow.Author.Needs.{needs}
 use Rattle.grid.proofs.Sides.{samples-most}
-use Rattle.masks.specs.Masks.{rowWords}
 use Rattle.rows.specs.Rows.{Stands, firstX, cubesMask, firstStretch}
 use Rattle.rows.proofs.Stretches.{stands-first, sample-there, word-there, stretch-addable}
 use Rattle.cuberows.specs.Cubes.{cornersAt, BusyCubes}
@@ -20,12 +20,12 @@ Inv-loop rows counts offsets masks names triangles₀ sides z from at₀ to₀ t
     Stands sides z at × Within sides (firstX sides at) (at .y) × Written triangles₀ triangles from (namedTo offsets names sides masks z (firstX sides at) (at .y)) to
 
 abbrev μ-loop : tie.MeasureT-loop
-μ-loop rows counts offsets masks names triangles₀ sides z from at₀ to₀ triangles at to = rowWords (sides .nx) * (sides .ny * sides .nz) - at .word
+μ-loop rows counts offsets masks names triangles₀ sides z from at₀ to₀ triangles at to = length masks - at .word
 
 first-requires : tie.Need-first-requires Inv-loop μ-loop
 first-requires c κs =
     let pre = c .before .before .before .pre .1 .1 in
-    (pre .0 .fit, (pre .0 .words, omega (arith, pre .1 .0)))
+    (pre .0 .fit, (pre .0 .words, (pre .0 .from, omega (arith, pre .1 .0))))
 
 loop-holds : tie.Need-loop-holds Inv-loop μ-loop
 loop-holds c =
@@ -37,7 +37,7 @@ loop-holds c =
     (λ at. Stands (a .sides) (a .z) at × Within (a .sides) (firstX (a .sides) at) (at .y)
     × Written (a .triangles .now) (a .triangles .now) (a .from) (namedTo (a .offsets .now) (a .names .now) (a .sides) (a .masks .now) (a .z) (firstX (a .sides) at) (at .y)) (a .from))
     (c .first .ensures) (
-      stands-first (a .sides) (ready .fit) (ready .words) (a .z),
+      stands-first (a .sides) (ready .fit) (ready .words) (a .z) (ready .from),
       (omega (arith, ready .fit .least-y), λ e. none),
       rw (none, named-none (a .offsets .now) (a .names .now) (a .sides) (a .masks .now) (a .z)) (written-none (a .triangles .now) (a .from)),
     )
@@ -53,7 +53,7 @@ corners-at-requires : tie.Need-corners-at-requires Inv-loop μ-loop
 corners-at-requires c κs =
     let s = begun c in
     let l = c .before .before .before .loop in
-    corners-there (s .args .sides) (s .args .masks .now) (s .pre .1 .1 .0) (s .args .z) (l .at) (l .inv .0) (c .if1 .taken) (s .pre .1 .1 .1 .0)
+    corners-there (s .args .sides) (s .args .masks .now) (s .args .z) (s .pre .1 .1 .0) (l .at) (l .inv .0) (c .if1 .taken) (s .pre .1 .1 .1 .0)
 
 cubes-mask-requires : tie.Need-cubes-mask-requires Inv-loop μ-loop
 cubes-mask-requires c κs = search needs
@@ -115,7 +115,7 @@ loop-less c =
     let here = c .before .before .before .before .before .before .before .before .before in
     let s = begun here in
     let l = here .before .before .before .loop in
-    omega (arith, ap (λ at. at .word) (c .next .ensures), word-there (s .args .sides) (s .args .z) (l .at) (l .inv .0) (l .inv .1 .0) (omega (arith, s .pre .1 .1 .1 .0)))
+    omega (arith, ap (λ at. at .word) (c .next .ensures), word-there (s .args .sides) (s .args .masks .now) (s .args .z) (s .pre .1 .1 .0) (l .at) (l .inv .0) (l .inv .1 .0))
 
 loop-again : tie.Need-loop-again Inv-loop μ-loop
 loop-again c =

@@ -2,7 +2,7 @@
 use mathlib.Core.Path.{sym, subst, _∙_}
 use Prim.Native.Nat.{_*_, _-_}
 use native.Mathlib.Omega.{arith}
-use Rattle.masks.specs.Masks.{rowWords}
+use lib.ListN.{length}
 use Rattle.rows.specs.Rows.{Stands}
 use Rattle.rows.proofs.Stretches.{stands-first, stands-next, layer-end, word-there, stretch-addable}
 use Rattle.pointnumbers.specs.Numbers.{NumberedTo}
@@ -13,18 +13,18 @@ abbrev Inv-loop : tie.InvT-loop
 Inv-loop sides z from masks work₀ n₀ at₀ work n at = Stands sides z at × NumberedTo sides masks (3 * at .s) n work
 
 abbrev μ-loop : tie.MeasureT-loop
-μ-loop sides z from masks work₀ n₀ at₀ work n at = rowWords (sides .nx) * (sides .ny * sides .nz) - at .word
+μ-loop sides z from masks work₀ n₀ at₀ work n at = length masks - at .word
 
 abbrev start : tie.At-loop Inv-loop μ-loop → tie.Start Inv-loop μ-loop
 start l = l .before .before .before .before
 
 first-requires : tie.Need-first-requires Inv-loop μ-loop
-first-requires c κs = let s = c .before .before in (s .pre .0 .fit, (s .pre .0 .words, s .pre .1 .0))
+first-requires c κs = let s = c .before .before in (s .pre .0 .fit, (s .pre .0 .words, (s .pre .0 .from, s .pre .1 .0)))
 
 loop-holds : tie.Need-loop-holds Inv-loop μ-loop
 loop-holds c =
     let s = c .before .before .before in
-    rw (c .first .ensures) (stands-first (s .args .sides) (s .pre .0 .fit) (s .pre .0 .words) (s .args .z), s .pre .1 .1)
+    rw (c .first .ensures) (stands-first (s .args .sides) (s .pre .0 .fit) (s .pre .0 .words) (s .args .z) (s .pre .0 .from), s .pre .1 .1)
 
 number-stretch-requires : tie.Need-number-stretch-requires Inv-loop μ-loop
 number-stretch-requires c κs =
@@ -42,7 +42,7 @@ loop-less : tie.Need-loop-less Inv-loop μ-loop
 loop-less c =
     let l = c .before .before .before .before .before .before .before .before in
     let s = start l in
-    rw (c .next .ensures) (omega (arith, word-there (s .args .sides) (s .args .z) (l .loop .at) (l .loop .inv .0) (omega arith) (s .pre .1 .0)))
+    rw (c .next .ensures) (omega (arith, word-there (s .args .sides) (s .args .masks .now) (s .args .z) (s .pre .0) (l .loop .at) (l .loop .inv .0) (omega arith)))
 
 loop-again : tie.Need-loop-again Inv-loop μ-loop
 loop-again c =

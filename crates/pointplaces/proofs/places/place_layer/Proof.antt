@@ -1,25 +1,25 @@
 -- `pointplaces::places::place_layer` meets its contract. The invariant: the next stretch stands in the layer, or where the next layer begins, and the points on
 -- the edges before its own are placed. Each turn leaves a word less. Assumes nothing.
 use mathlib.Core.Path.{refl, ap, subst, _∙_}
-use Prim.Native.Nat.{_*_, _-_, _<_}
+use Prim.Native.Nat.{_+_, _*_, _-_, _<_}
 use native.Mathlib.Omega.{arith}
+use lib.ListN.{length}
 use denote.Ref.{now}
-use Rattle.masks.specs.Masks.{rowWords}
-use Rattle.rows.specs.Rows.{Stands, layerFirst}
+use Rattle.rows.specs.Rows.{Stands, ownSamples, layerFirst}
 use Rattle.edgepoints.specs.EdgePoint.{PointRooms, pointRooms}
-use Rattle.pointplaces.specs.Places.{countAll, Advanced}
-use Rattle.rows.proofs.Stretches.{stands-first, stands-next, layer-end, word-there, stretch-addable}
-use Rattle.pointplaces.proofs.Placing.{SameLengths, room-kept, advanced-none, advanced-on}
+use Rattle.pointplaces.specs.Places.{Placed}
+use Rattle.rows.proofs.Stretches.{stands-first, stands-next, layer-end, stretch-end, word-there, stretch-addable}
+use Rattle.pointplaces.proofs.Placing.{SameLengths, room-less, room-kept, number-within, placed-none, placed-on}
 use Rattle.pointplaces.proofs.places.place_layer.Statement.{statement}
 use Rattle.pointplaces.proofs.places.place_layer.Tie as tie
 
 abbrev Inv-loop : tie.InvT-loop
 Inv-loop sides grey z from samples masks points₀ edges₀ marks₀ n₀ at₀ points edges marks n at = Stands sides z at
     × SameLengths (pointRooms points₀ edges₀ marks₀) (pointRooms points edges marks)
-    × Advanced sides grey samples masks (3 * layerFirst sides z) (3 * at .s) n (pointRooms points₀ edges₀ marks₀) (pointRooms points edges marks)
+    × Placed sides grey samples masks (3 * layerFirst sides z) (3 * at .s) from n (pointRooms points₀ edges₀ marks₀) (pointRooms points edges marks)
 
 abbrev μ-loop : tie.MeasureT-loop
-μ-loop sides grey z from samples masks points₀ edges₀ marks₀ n₀ at₀ points edges marks n at = rowWords (sides .nx) * (sides .ny * sides .nz) - at .word
+μ-loop sides grey z from samples masks points₀ edges₀ marks₀ n₀ at₀ points edges marks n at = length masks - at .word
 
 -- the start, from the loop's head
 abbrev start : tie.At-loop Inv-loop μ-loop → tie.Start Inv-loop μ-loop
@@ -51,16 +51,16 @@ row-there c = omega arith
 first-requires : tie.Need-first-requires Inv-loop μ-loop
 first-requires c κs =
     let pre = c .before .before .before .before .before .pre in
-    (pre .0 .ready .fit, (pre .0 .ready .words, pre .1 .0))
+    (pre .0 .ready .fit, (pre .0 .ready .words, (pre .0 .ready .from, pre .1 .0)))
 
 loop-holds : tie.Need-loop-holds Inv-loop μ-loop
 loop-holds c =
     let s = c .before .before .before .before .before .before in
     let a = s .args in
     rw (c .first .ensures) (
-      stands-first (a .sides) (s .pre .0 .ready .fit) (s .pre .0 .ready .words) (a .z),
+      stands-first (a .sides) (s .pre .0 .ready .fit) (s .pre .0 .ready .words) (a .z) (s .pre .0 .ready .from),
       record { points = refl; edges = refl; marks = refl },
-      advanced-none (a .sides) (a .grey) (now (a .samples)) (now (a .masks)) (3 * layerFirst (a .sides) (a .z)) (a .from) (first-rooms s) (s .pre .1 .1 .1),
+      placed-none (a .sides) (a .grey) (now (a .samples)) (now (a .masks)) (3 * layerFirst (a .sides) (a .z)) (a .from) (first-rooms s),
     )
 
 place-stretch-requires : tie.Need-place-stretch-requires Inv-loop μ-loop
@@ -69,8 +69,16 @@ place-stretch-requires c κs =
     let l = head t in
     let s = start l in
     let a = s .args in
-    let fits = room-kept (countAll (a .sides) (now (a .masks))) (first-rooms s) (loop-rooms l) (l .loop .inv .1) (s .pre .1 .1 .0) in
-    (s .pre .0, (l .loop .inv .0, (row-there t, (s .pre .1 .0, (fits, l .loop .inv .2 .counted)))))
+    let so = l .loop .inv .2 in
+    let within =
+    number-within (a .sides) (now (a .masks)) (3 * layerFirst (a .sides) (a .z)) (3 * l .loop .at .s) (3 * (l .loop .at .s + ownSamples (l .loop .at .left))) (3 * layerFirst (a .sides) (a .z + 1))
+    (a .from)
+    (l .loop .n)
+    (so .rising)
+    (omega arith)
+    (omega (arith, stretch-end (a .sides) (a .z) (l .loop .at) (l .loop .inv .0) (row-there t)))
+    (so .counted) in
+    (s .pre .0, (l .loop .inv .0, (row-there t, (s .pre .1 .0, room-kept (l .loop .inv .1) (room-less within (s .pre .1 .1))))))
 
 next-requires : tie.Need-next-requires Inv-loop μ-loop
 next-requires c κs =
@@ -84,7 +92,7 @@ loop-less c =
     let t = c .before .before .before .before .before .before .before .before .before .before .before in
     let l = head t in
     let s = start l in
-    omega (arith, ap (λ at. at .word) (c .next .ensures), word-there (s .args .sides) (s .args .z) (l .loop .at) (l .loop .inv .0) (row-there t) (s .pre .1 .0))
+    omega (arith, ap (λ at. at .word) (c .next .ensures), word-there (s .args .sides) (now (s .args .masks)) (s .args .z) (s .pre .0 .ready) (l .loop .at) (l .loop .inv .0) (row-there t))
 
 loop-again : tie.Need-loop-again Inv-loop μ-loop
 loop-again c =
@@ -97,7 +105,7 @@ loop-again c =
     rw (c .next .ensures) (
       stands-next (a .sides) (a .z) (l .loop .at) (l .loop .inv .0) (row-there t),
       record { points = kept .0 ∙ same .points; edges = kept .1 .0 ∙ same .edges; marks = kept .1 .1 .0 ∙ same .marks },
-      advanced-on {t = past-stretch done} (l .loop .inv .2) (done .place-stretch .ensures),
+      placed-on (a .sides) (a .grey) (now (a .samples)) (now (a .masks)) {t = past-stretch done} (l .loop .inv .2) (done .place-stretch .ensures),
     )
 
 same-length : tie.Need-same-length Inv-loop μ-loop
@@ -114,7 +122,7 @@ returns c =
     let l = end c in
     let a = start l .args in
     subst
-    (λ s. Advanced (a .sides) (a .grey) (now (a .samples)) (now (a .masks)) (3 * layerFirst (a .sides) (a .z)) (3 * s) (l .loop .n) (first-rooms (start l)) (loop-rooms l))
+    (λ s. Placed (a .sides) (a .grey) (now (a .samples)) (now (a .masks)) (3 * layerFirst (a .sides) (a .z)) (3 * s) (a .from) (l .loop .n) (first-rooms (start l)) (loop-rooms l))
     (layer-end (a .sides) (a .z) (l .loop .at) (l .loop .inv .0) (omega arith))
     (l .loop .inv .2)
 

@@ -51,16 +51,16 @@ same-y c =
 
 -- the points of the later edges can still be placed
 able-y : (c : tie.After-place-edge) → let a = before-x c .args in
-    a .cuts .y ≡ true → Placeable (sizeOf (a .sides)) (now (a .samples)) (a .at .s) 1 (c .place-edge .result) (past-x c)
+    a .cuts .y ≡ true → Placeable (sizeOf (a .sides)) (now (a .samples)) (a .at .place) 1 (c .place-edge .result) (past-x c)
 able-y c cut =
     let s = before-x c in
     let a = s .args in
-    still-placeable (sizeOf (a .sides)) (now (a .samples)) (a .at .s) 1 (nextNumber (a .cuts .x) (a .from)) (c .place-edge .result) (first-rooms s) (past-x c) (same-x c)
+    still-placeable (sizeOf (a .sides)) (now (a .samples)) (a .at .place) 1 (nextNumber (a .cuts .x) (a .from)) (c .place-edge .result) (first-rooms s) (past-x c) (same-x c)
     (c .place-edge .ensures .0)
     (s .pre .1 .along-y cut)
 
 able-z : (c : tie.After-place-edge2) → let a = before-x (before-y c) .args in
-    a .cuts .z ≡ true → Placeable (sizeOf (a .sides)) (now (a .samples)) (a .at .s) 2 (c .place-edge2 .result) (past-y c)
+    a .cuts .z ≡ true → Placeable (sizeOf (a .sides)) (now (a .samples)) (a .at .place) 2 (c .place-edge2 .result) (past-y c)
 able-z c cut =
     let x = before-y c in
     let s = before-x x in
@@ -68,10 +68,10 @@ able-z c cut =
     let size = sizeOf (a .sides) in
     let samples = now (a .samples) in
     let past-one =
-    still-placeable size samples (a .at .s) 2 (nextNumber (a .cuts .y) (nextNumber (a .cuts .x) (a .from))) (nextNumber (a .cuts .y) (x .place-edge .result)) (first-rooms s) (past-x x) (same-x x)
+    still-placeable size samples (a .at .place) 2 (nextNumber (a .cuts .y) (nextNumber (a .cuts .x) (a .from))) (nextNumber (a .cuts .y) (x .place-edge .result)) (first-rooms s) (past-x x) (same-x x)
     (ap (nextNumber (a .cuts .y)) (x .place-edge .ensures .0))
     (s .pre .1 .along-z cut) in
-    still-placeable size samples (a .at .s) 2 (nextNumber (a .cuts .y) (x .place-edge .result)) (c .place-edge2 .result) (past-x x) (past-y c) (same-y c)
+    still-placeable size samples (a .at .place) 2 (nextNumber (a .cuts .y) (x .place-edge .result)) (c .place-edge2 .result) (past-x x) (past-y c) (same-y c)
     (c .place-edge2 .ensures .0)
     past-one
 
