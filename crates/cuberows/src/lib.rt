@@ -76,7 +76,7 @@ fn count_stretch(counts: &[u8; CASES], corners: Corners, cubes: u64) -> u32
 }
 
 // How many triangles a layer of cubes has.
-fn count_layer(counts: &[u8; CASES], sides: Sides, z: usize, masks: &[u64]) -> u32
+pub fn count_layer(counts: &[u8; CASES], sides: Sides, z: usize, masks: &[u64]) -> u32
     requires { ⌜ Counts (now counts) ⌝ }
     requires { ⌜ Ready sides z (now masks) ⌝ }
     requires { ⌜ z + 1 < sides .nz ⌝ }

@@ -22,10 +22,6 @@ length-keep zero p = refl
 length-keep (suc n) p = simp length-append (omega (arith, length-keep n p, length-if (p n) n))
 
 -- one step of a walk, at n + 1 as the code has it
-pub keep-next : (n : ℕ) (p : ℕ → Bool) → keepTo (n + 1) p ≡ keepTo n p ++ cond (p n) (n ∷ []) []
-unfolding keepTo joinTo
-keep-next n p = rw add-one
-
 pub count-next : (n : ℕ) (p : ℕ → Bool) → countTo (n + 1) p ≡ countTo n p + one-if (p n)
 unfolding countTo sumTo
 count-next n p = rw add-one

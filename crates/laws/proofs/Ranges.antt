@@ -156,14 +156,6 @@ pub count-none : (n : ℕ) (p : ℕ → Bool) → ((i : ℕ) → i < n → p i �
 unfolding countTo
 count-none n p none = sum-none n (λ i. one-if (p i)) (λ i l. rw (none i l))
 
--- nothing passes beyond n
-pub keep-none : (n len : ℕ) (p : ℕ → Bool) → ((i : ℕ) → i < len → p (n + i) ≡ false) → keepTo (n + len) p ≡ keepTo n p
-unfolding keepTo
-keep-none n len p none = join-quiet n (n + len) (λ i. cond (p i) (i ∷ []) []) (omega arith) (λ i a b. rw (beyond i (i - n) (omega arith) (omega arith)))
-  where
-    beyond : (i k : ℕ) → i ≡ n + k → k < len → p i ≡ false
-    beyond i k is l = rw is (none k l)
-
 -- what one number of the range is worth by itself
 pub sum-picks : (n k x : ℕ) → k < n → sumTo n (λ i. cond (eqb k i) x 0) ≡ x
 unfolding sumTo

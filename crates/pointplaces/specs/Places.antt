@@ -5,7 +5,6 @@ use mathlib.Core.Bool.{true}
 use Prim.Native.Nat.{ℕ, _+_, _*_, _/_, _%_, _≤_}
 use lib.ListN.{length}
 use Rattle.laws.specs.Range.{keepFrom}
-use Rattle.grid.specs.Grid.{Size}
 use Rattle.masks.specs.Masks.{Masked}
 use Rattle.rows.specs.declared.Sides.{Sides}
 use Rattle.rows.specs.declared.Cuts.{Cuts}

@@ -9,7 +9,7 @@ ghost use Rattle.grid.specs.Point.{pointEdges, place as placeOf};
 ghost use Rattle.grid.specs.Work.{size, SidesFit};
 ghost use Rattle.masks.specs.Masks.{rowWords, maskAbove, Masked};
 
-mod places;
+pub mod places;
 
 use places::place_layer;
 use rows::Sides;

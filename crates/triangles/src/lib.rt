@@ -23,7 +23,7 @@ use cuberows::Corners;
 use rows::Sides;
 
 // How far the grid edge of each cube edge is from the first grid edge of the cube's first corner.
-fn edge_offsets(nx: usize, ny: usize) -> [usize; 12]
+pub fn edge_offsets(nx: usize, ny: usize) -> [usize; 12]
     requires { ⌜ (nx ≤ mostSide) × (ny ≤ mostSide) ⌝ }
     ensures { λ r. ⌜ r ≡ map (edgeOffset nx ny) cubeEdges ⌝ }
 {
@@ -120,7 +120,7 @@ fn write_stretch(
 }
 
 // Writes the triangles of a layer of cubes, and answers where it stopped.
-fn write_layer(
+pub fn write_layer(
     rows: &[u8; TABLE],
     counts: &[u8; CASES],
     offsets: &[usize; 12],

@@ -1,6 +1,6 @@
 -- `cuberows::count_layer` meets its contract. The loop's invariant: the cubes before a stretch are counted. Assumes nothing.
 use mathlib.Core.Path.{_≡_, refl, ap, ap₂, subst⁻¹, _∙_}
-use Prim.Native.Nat.{_+_, _*_, _-_}
+use Prim.Native.Nat.{_+_, _-_}
 use native.Mathlib.Omega.{arith}
 use lib.ListN.{length}
 use borrow.Author.Needs.{needs}

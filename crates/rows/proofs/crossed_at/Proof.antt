@@ -1,5 +1,4 @@
 -- `rows::crossed_at` meets its contract: the law of its words. A stretch of the grid has its word, and so have its neighbours where they are there. Assumes nothing.
-use mathlib.Core.Path.{_≡_}
 use Prim.Native.Nat.{_*_, _<_, _≤_}
 use native.Mathlib.Nat.{mul-le-mul-left}
 use native.Mathlib.Omega.{arith}

@@ -1,6 +1,6 @@
 -- `triangles::write_layer` meets its contract. The loop's invariant: the cubes before a stretch are written. Assumes nothing.
 use mathlib.Core.Path.{_≡_, ap, ap₂, subst, subst⁻¹, _∙_}
-use Prim.Native.Nat.{_*_, _-_}
+use Prim.Native.Nat.{_-_}
 use native.Mathlib.Omega.{arith}
 use lib.ListN.{length}
 use borrow.Author.Needs.{needs}
