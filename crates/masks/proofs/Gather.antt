@@ -4,7 +4,6 @@ use mathlib.Core.List.{List, [], _∷_, map}
 use mathlib.Core.Bool.{Bool, true}
 use Prim.Native.Nat.{ℕ, _+_, _*_, _/_, _%_, _^_, _<_}
 use native.Mathlib.Nat.{add-assoc}
-use native.Mathlib.Omega.{arith}
 use lib.Dec.{eqb}
 use borrow.Author.Tests.{eqb-true}
 use Rattle.laws.specs.Range.{one-if}
@@ -42,15 +41,3 @@ module _ (flags : List ℕ) where
   unfolding flagMask
   mask-join at m n =
       sym (rw (values-append (flagSet flags) at m n, bits-append (valuesFrom (flagSet flags) at m) (valuesFrom (flagSet flags) (at + m) n), length-values (flagSet flags) at m))
-
-  -- half a word by eights
-  pub half-gathered : (at : ℕ)
-      → flagMask flags at 8 + 2 ^ 8 * flagMask flags (at + 8) 8 + 2 ^ 16 * (flagMask flags (at + 2 * 8) 8 + 2 ^ 8 * flagMask flags (at + 3 * 8) 8)
-      ≡ flagMask flags at 32
-  half-gathered at =
-      omega (
-        arith,
-        mask-join at 8 8,
-        rw (add-assoc at 16 8) at (mask-join (at + 16) 8 8),
-        mask-join at 16 16,
-      )

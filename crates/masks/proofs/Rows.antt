@@ -6,6 +6,7 @@ use Prim.Native.Nat.{ℕ, _+_, _*_, _-_, _/_, _<_, _≤_}
 use native.Mathlib.Decide.{decLt}
 use native.Mathlib.Nat.{mul-comm, mul-add, mul-zero, one-mul, zero-add, le-div-iff-mul-le}
 use native.Mathlib.Omega.{arith}
+use lib.Dec.{leb}
 use lib.ListN.{length, getD, set}
 use lib.Seq.{getD-set-same, getD-set-other}
 use Rattle.laws.specs.Bits.{wordBits, bit}
@@ -20,7 +21,9 @@ use Rattle.masks.proofs.Gather.{mask-bit}
 
 -- samples are among the flags that they are gathered from
 pub samples-within : (many : ℕ) → many ≤ wordBits → many ≤ gathered many
-samples-within many l = leb-cases many (wordBits / 2) (λ t. many ≤ cond t (wordBits / 2) wordBits) (λ short. short) (λ long. l)
+samples-within many l =
+    leb-cases many (wordBits / 4) (λ t. many ≤ cond t (wordBits / 4) (cond (leb many (wordBits / 2)) (wordBits / 2) wordBits)) (λ few. few)
+    (λ more. leb-cases many (wordBits / 2) (λ t. many ≤ cond t (wordBits / 2) wordBits) (λ short. short) (λ long. l))
 
 -- the first words of a row, whose flags stand from `at` on, are written from place `from` to place `to`, and those before them are as they were
 pub record WordsTo (flags : List ℕ) (nx at from to : ℕ) (entry exit : List ℕ) : Type 0 where

@@ -37,9 +37,9 @@ flagSet flags i = eqb (getD flags i 0) 1
 unfoldable pub flagMask : List ℕ → ℕ → ℕ → ℕ
 flagMask flags at n = bits (valuesFrom (flagSet flags) at n)
 
--- the mask of so many samples is that of half a word's flags, or of a word's where they are more
+-- the mask of so many samples is that of a quarter of a word's flags, of half a word's where they are more, or of a word's
 abbrev pub gathered : ℕ → ℕ
-gathered many = cond (leb many (wordBits / 2)) (wordBits / 2) wordBits
+gathered many = cond (leb many (wordBits / 4)) (wordBits / 4) (cond (leb many (wordBits / 2)) (wordBits / 2) wordBits)
 
 -- The words of so many rows of nx samples, whose flags stand one after the other from `at` on, are written from place `from` on, and those before it are as they were.
 pub record Gathered (flags : List ℕ) (nx at rows from : ℕ) (entry exit : List ℕ) : Type 0 where

@@ -19,6 +19,8 @@ const FLAG_BYTES: usize = MOST_FLAGGED + WORD_BITS as usize;
 
 const HALF_WORD: usize = WORD_BITS as usize / 2;
 
+const QUARTER_WORD: usize = WORD_BITS as usize / 4;
+
 // Samples of a word, and its cubes along x: the last sample of a word is the next word's first.
 pub const WORD_SAMPLES: usize = WORD_BITS as usize;
 
@@ -90,15 +92,22 @@ fn eight_mask(flags: &[u8; FLAG_BYTES], at: usize) -> u64
     spread * GATHER / THREE_BYTES % BYTE
 }
 
-// The mask of half a word's flags. Eights are put together side by side, so that none waits for another.
+// The mask of a quarter of a word's flags.
+fn quarter_mask(flags: &[u8; FLAG_BYTES], at: usize) -> u64
+    requires { ⌜ at + wordBits / 4 ≤ flagBytes ⌝ }
+    requires { ⌜ AreFlags (now flags) ⌝ }
+    ensures { λ r. ⌜ (r ≡ flagMask (now (flags .entry)) at (wordBits / 4)) × (r < 2 ^ 16) ⌝ }
+{
+    eight_mask(flags, at) + BYTE * eight_mask(flags, at + 8)
+}
+
+// The mask of half a word's flags. Quarters are put together side by side, so that none waits for another.
 fn half_mask(flags: &[u8; FLAG_BYTES], at: usize) -> u64
     requires { ⌜ at + wordBits / 2 ≤ flagBytes ⌝ }
     requires { ⌜ AreFlags (now flags) ⌝ }
     ensures { λ r. ⌜ (r ≡ flagMask (now (flags .entry)) at (wordBits / 2)) × (r < 2 ^ 32) ⌝ }
 {
-    let low = eight_mask(flags, at) + BYTE * eight_mask(flags, at + 8);
-    let high = eight_mask(flags, at + 2 * 8) + BYTE * eight_mask(flags, at + 3 * 8);
-    low + TWO_BYTES * high
+    quarter_mask(flags, at) + TWO_BYTES * quarter_mask(flags, at + QUARTER_WORD)
 }
 
 // The mask of so many samples, a word's at most, whose flags stand from `at` on. Its bits past them are flags of other samples.
@@ -107,6 +116,9 @@ fn word_mask(flags: &[u8; FLAG_BYTES], at: usize, many: usize) -> u64
     requires { ⌜ AreFlags (now flags) ⌝ }
     ensures { λ r. ⌜ r ≡ flagMask (now (flags .entry)) at (gathered many) ⌝ }
 {
+    if many <= QUARTER_WORD {
+        return quarter_mask(flags, at);
+    }
     let low = half_mask(flags, at);
     if many <= HALF_WORD {
         return low;
