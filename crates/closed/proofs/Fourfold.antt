@@ -14,6 +14,7 @@ use Rattle.cube.specs.Loop.{loops, fan}
 use Rattle.cube.specs.Answer.{segments, triangles}
 use Rattle.grid.specs.Grid.{axes, site, coordinate, side, isAboveGrey, otherEnd, fitsAlong, isThere, isOutermost, someFace, crossedFrom, crossed, onFaceFrom, onFace}
 use Rattle.grid.specs.Point.{pointEdges, number}
+use Rattle.grid.specs.Mode.{cubes}
 use Rattle.grid.specs.Mesh.{cornerSite, gridEdge, caseAt, cubeTriangles, edgeMesh, mesh}
 use Rattle.closed.specs.Runs.{runs, onOneFace}
 use Rattle.closed.specs.Fourfold.{twoCubes, twoCubesAbove, ExactlyTwice}
@@ -26,7 +27,7 @@ pub lower-case : caseAt twoCubes twoCubesAbove 0 0 0 ≡ 111
 unfolding caseAt caseOf bits cornerSite site isAboveGrey
 lower-case = refl
 
-pub four-sides : (runs (mesh twoCubes twoCubesAbove) 2 3 ≡ 2) × (runs (mesh twoCubes twoCubesAbove) 3 2 ≡ 2)
+pub four-sides : (runs (mesh cubes twoCubes twoCubesAbove) 2 3 ≡ 2) × (runs (mesh cubes twoCubes twoCubesAbove) 3 2 ≡ 2)
 unfolding runs total sides sumOf mesh edgeMesh joinBox joinTo cubeTriangles caseAt caseOf bits cornerSite site isAboveGrey triangles flatMap fan loops segments segmentsOf faceSegments cuts wayRound isAbove bit gridEdge number countTo sumTo crossed crossedFrom isThere fitsAlong coordinate side otherEnd xor
 four-sides = (refl, refl)
 

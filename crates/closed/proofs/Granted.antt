@@ -16,8 +16,9 @@ use Rattle.laws.proofs.Rooms.{laid-read}
 use Rattle.laws.proofs.Rows.{length-rows, entry-at}
 use Rattle.laws.proofs.Sides.{length-corners}
 use Rattle.grid.specs.Limits.{mostPoints, mostTriangles}
-use Rattle.grid.specs.Grid.{Size, axes, sampleCount, edgeCount, mark}
+use Rattle.grid.specs.Grid.{Size, Kind, sampleCount, edgeCount, mark}
 use Rattle.grid.specs.Point.{place}
+use Rattle.grid.specs.Mode.{Mode}
 use Rattle.grid.specs.Sides.{sidesFit}
 use Rattle.grid.specs.Work.{size, SidesFit}
 use Rattle.grid.proofs.Sides.{sides-within}
@@ -77,15 +78,18 @@ module _ (r : Rooms) (g : Outcome) where
   only-granted true true true false true e = absurd (omega (arith, e))
   only-granted true true true false false e = (refl, refl, refl, refl)
 
-module _ (nx ny nz grey : ℕ) (samples : List ℕ) (before : Rooms) where
+module _ (mode : Mode) (nx ny nz grey : ℕ) (samples : List ℕ) (before : Rooms) where
+  abbrev k : Kind
+  k = mode .kind
+
   abbrev n : Size
   n = size nx ny nz
 
   abbrev points : List ℕ
-  points = pointList n grey samples before
+  points = pointList mode n grey samples before
 
   abbrev triangles : List Triangle
-  triangles = triangleList n grey samples before
+  triangles = triangleList mode n grey samples before
 
   -- the sides fit, the counts are within the limits, and what is left in the front of the rooms is what is defined
   pub record Granted (after : Outcome) : Type 0 where
@@ -93,15 +97,15 @@ module _ (nx ny nz grey : ℕ) (samples : List ℕ) (before : Rooms) where
     pub points-fit : length points ≤ mostPoints
     pub triangles-fit : length triangles ≤ mostTriangles
     pub edges-are : edgesLeft after ≡ points
-    pub places-are : meshLeft after .points ≡ flatMap (place axes n grey samples) points
-    pub marks-are : meshLeft after .marks ≡ map (mark axes n) points
+    pub places-are : meshLeft after .points ≡ flatMap (place k n grey samples) points
+    pub marks-are : meshLeft after .marks ≡ map (mark k n) points
     pub triangles-are : meshLeft after .triangles ≡ flat triangles
 
-  pub place-three : (e : ℕ) → length (place axes n grey samples e) ≡ 3
+  pub place-three : (e : ℕ) → length (place k n grey samples e) ≡ 3
   unfolding place
   place-three e = refl
 
-  left-by-granted : SidesFit nx ny nz → length points ≤ mostPoints → length triangles ≤ mostTriangles → Granted (granted n grey samples before)
+  left-by-granted : SidesFit nx ny nz → length points ≤ mostPoints → length triangles ≤ mostTriangles → Granted (granted mode n grey samples before)
   unfolding edgesLeft meshLeft granted
   left-by-granted s p t =
       record {
@@ -110,21 +114,21 @@ module _ (nx ny nz grey : ℕ) (samples : List ℕ) (before : Rooms) where
         triangles-fit = t;
         edges-are = laid-read points (before .edges) (length points) refl;
         places-are =
-            laid-read (flatMap (place axes n grey samples) points) (before .points) (3 * length points) (length-flat 3 (place axes n grey samples) place-three points);
-        marks-are = laid-read (map (mark axes n) points) (before .marks) (length points) (length-map points (mark axes n));
+            laid-read (flatMap (place k n grey samples) points) (before .points) (3 * length points) (length-flat 3 (place k n grey samples) place-three points);
+        marks-are = laid-read (map (mark k n) points) (before .marks) (length points) (length-map points (mark k n));
         triangles-are = laid-read (flat triangles) (before .triangles) (3 * length triangles) (length-corners triangles);
       }
 
-  pub left-granted : (after : Outcome) → Extracts nx ny nz grey samples before after → after .number ≡ 0 → Granted after
+  pub left-granted : (after : Outcome) → Extracts mode nx ny nz grey samples before after → after .number ≡ 0 → Granted after
   unfolding extracted measured
   left-granted after e none =
       let g =
-      only-granted before (granted n grey samples before) (sidesFit nx ny nz) (eqb (length samples) (sampleCount n))
-      (eqb (length (before .work)) (edgeCount axes n))
-      (ltb (min mostPoints (pointRoom n grey samples before)) (length points))
-      (ltb (min mostTriangles (triangleRoom n grey samples before)) (length triangles))
+      only-granted before (granted mode n grey samples before) (sidesFit nx ny nz) (eqb (length samples) (sampleCount n))
+      (eqb (length (before .work)) (edgeCount k n))
+      (ltb (min mostPoints (pointRoom mode n grey samples before)) (length points))
+      (ltb (min mostTriangles (triangleRoom mode n grey samples before)) (length triangles))
       (ap (λ o. o .number) (sym e) ∙ none) in
       subst Granted (sym (e ∙ g .0))
       (left-by-granted (sides-within nx ny nz (g .1))
-      (omega (arith, ltb-false (min mostPoints (pointRoom n grey samples before)) (length points) (g .2)))
-      (omega (arith, ltb-false (min mostTriangles (triangleRoom n grey samples before)) (length triangles) (g .3))))
+      (omega (arith, ltb-false (min mostPoints (pointRoom mode n grey samples before)) (length points) (g .2)))
+      (omega (arith, ltb-false (min mostTriangles (triangleRoom mode n grey samples before)) (length triangles) (g .3))))

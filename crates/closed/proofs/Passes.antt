@@ -14,8 +14,9 @@ use Rattle.laws.proofs.Lists.{all-get, all-of-places, all-flat}
 use Rattle.laws.proofs.Sums.{all-map, all-weaken}
 use Rattle.laws.proofs.Sides.{length-corners}
 use Rattle.grid.specs.Limits.{mostSide, mostPoints, mostTriangles, mostCoordinate}
-use Rattle.grid.specs.Grid.{axes, isAboveGrey, mark, side}
+use Rattle.grid.specs.Grid.{isAboveGrey, mark, side}
 use Rattle.grid.specs.Point.{pointEdges, place}
+use Rattle.grid.specs.Mode.{Mode}
 use Rattle.grid.specs.Mesh.{mesh}
 use Rattle.grid.specs.Work.{size}
 use Rattle.grid.proofs.Points.{place-small, mark-small, point-of-edge}
@@ -24,6 +25,7 @@ use Rattle.extract.specs.Extraction.{Rooms, Outcome}
 use Rattle.extract.specs.Promise.{Extracts}
 use Rattle.mesh.specs.Mesh.{triangleCount}
 use Rattle.mesh.specs.Check.{lengthsFit, namesThree, trianglesFit, allWithin, meshNumber}
+use Rattle.closed.specs.Pattern.{Owed}
 use Rattle.closed.specs.Left.{meshLeft}
 use Rattle.closed.proofs.Granted.{Granted, left-granted, triangle-at-flat, place-three}
 
@@ -74,16 +76,16 @@ lengths-fit points triangles v t p q hv ht =
       le-leb (triangles / 3) mostTriangles (omega arith),
     )
 
-module _ (nx ny nz grey : ℕ) (samples : List ℕ) (before : Rooms) (after : Outcome) (extracts : Extracts nx ny nz grey samples before after)
+module _ (mode : Mode) (owed : Owed mode) (nx ny nz grey : ℕ) (samples : List ℕ) (before : Rooms) (after : Outcome) (extracts : Extracts mode nx ny nz grey samples before after)
     (none : after .number ≡ 0) where
-  left : Granted nx ny nz grey samples before after
-  left = left-granted nx ny nz grey samples before after extracts none
+  left : Granted mode nx ny nz grey samples before after
+  left = left-granted mode nx ny nz grey samples before after extracts none
 
   abbrev above : ℕ → Bool
   above = isAboveGrey grey samples
 
   abbrev points : List ℕ
-  points = pointEdges axes (size nx ny nz) above
+  points = pointEdges (mode .kind) (size nx ny nz) above
 
   abbrev v : ℕ
   v = length points
@@ -95,35 +97,35 @@ module _ (nx ny nz grey : ℕ) (samples : List ℕ) (before : Rooms) (after : Ou
   most (suc zero) = left .sides-fit .most-y
   most (suc (suc axis)) = left .sides-fit .most-z
 
-  places-fit : All (λ c. c ≤ mostCoordinate) (flatMap (place axes (size nx ny nz) grey samples) points)
+  places-fit : All (λ c. c ≤ mostCoordinate) (flatMap (place (mode .kind) (size nx ny nz) grey samples) points)
   places-fit =
-      all-flat (λ c. c ≤ mostCoordinate) (place axes (size nx ny nz) grey samples) points
-      (all-of-places (λ e. All (λ c. c ≤ mostCoordinate) (place axes (size nx ny nz) grey samples e)) 0 points
-      (λ p l. place-small axes (size nx ny nz) grey samples most (getD points p 0) (point-of-edge axes (size nx ny nz) above p l .passes)))
+      all-flat (λ c. c ≤ mostCoordinate) (place (mode .kind) (size nx ny nz) grey samples) points
+      (all-of-places (λ e. All (λ c. c ≤ mostCoordinate) (place (mode .kind) (size nx ny nz) grey samples e)) 0 points
+      (λ p l. place-small (mode .kind) (size nx ny nz) grey samples most (getD points p 0) (point-of-edge (mode .kind) (size nx ny nz) above p l .passes)))
 
-  marks-fit : All (λ m. m ≤ 1) (map (mark axes (size nx ny nz)) points)
+  marks-fit : All (λ m. m ≤ 1) (map (mark (mode .kind) (size nx ny nz)) points)
   marks-fit =
-      all-map (λ m. m ≤ 1) (mark axes (size nx ny nz)) points
-      (all-of-places (λ e. mark axes (size nx ny nz) e ≤ 1) 0 points (λ p l. mark-small axes (size nx ny nz) above (getD points p 0)))
+      all-map (λ m. m ≤ 1) (mark (mode .kind) (size nx ny nz)) points
+      (all-of-places (λ e. mark (mode .kind) (size nx ny nz) e ≤ 1) 0 points (λ p l. mark-small (mode .kind) (size nx ny nz) above (getD points p 0)))
 
-  sides-join : All (Joins v) (sides (mesh (size nx ny nz) above))
+  sides-join : All (Joins v) (sides (mesh mode (size nx ny nz) above))
   sides-join =
-      all-weaken (PointSide (size nx ny nz) above) (Joins v) (λ s h. (h .start, h .end, h .apart)) (sides (mesh (size nx ny nz) above))
-      (mesh-sound (size nx ny nz) above)
+      all-weaken (PointSide mode (size nx ny nz) above) (Joins v) (λ s h. (h .start, h .end, h .apart)) (sides (mesh mode (size nx ny nz) above))
+      (mesh-sound mode (size nx ny nz) above (owed .cut))
 
   pub extract-passes : meshNumber (meshLeft after .points) (meshLeft after .triangles) (meshLeft after .marks) ≡ 0
   unfolding meshNumber
   extract-passes =
-      let ts = mesh (size nx ny nz) above in
-      let many = length-map points (mark axes (size nx ny nz)) in
+      let ts = mesh mode (size nx ny nz) above in
+      let many = length-map points (mark (mode .kind) (size nx ny nz)) in
       rw (left .places-are, left .triangles-are, left .marks-are, many)
       (rw (
-        lengths-fit (length (flatMap (place axes (size nx ny nz) grey samples) points)) (length (flat ts)) v (length ts)
-            (length-flat 3 (place axes (size nx ny nz) grey samples) (place-three nx ny nz grey samples before) points)
+        lengths-fit (length (flatMap (place (mode .kind) (size nx ny nz) grey samples) points)) (length (flat ts)) v (length ts)
+            (length-flat 3 (place (mode .kind) (size nx ny nz) grey samples) (place-three mode nx ny nz grey samples before) points)
             (length-corners ts)
             (left .points-fit)
             (left .triangles-fit),
         flat-fits v ts sides-join,
-        within mostCoordinate (flatMap (place axes (size nx ny nz) grey samples) points) places-fit,
-        within 1 (map (mark axes (size nx ny nz)) points) marks-fit,
+        within mostCoordinate (flatMap (place (mode .kind) (size nx ny nz) grey samples) points) places-fit,
+        within 1 (map (mark (mode .kind) (size nx ny nz)) points) marks-fit,
       ))

@@ -7,6 +7,7 @@ use Prim.Native.Nat.{ℕ, _+_, _<_}
 use lib.ListN.{getD}
 use Rattle.grid.specs.Grid.{Size, axes, isAboveGrey}
 use Rattle.grid.specs.Point.{pointEdges}
+use Rattle.grid.specs.Mode.{cubes}
 use Rattle.grid.specs.Mesh.{mesh}
 use Rattle.grid.specs.Work.{size}
 use Rattle.closed.specs.Runs.{runs, onOneFace}
@@ -28,4 +29,4 @@ twoCubesAbove s = isAboveGrey twoCubesGrey twoCubesSamples s
 abbrev pub ExactlyTwice : Type 0
 ExactlyTwice = (n : Size) (above : ℕ → Bool) (p q : ℕ)
     → onOneFace axes n (getD (pointEdges axes n above) p 0) (getD (pointEdges axes n above) q 0) ≡ false
-    → 0 < runs (mesh n above) p q → runs (mesh n above) p q + runs (mesh n above) q p ≡ 2
+    → 0 < runs (mesh cubes n above) p q → runs (mesh cubes n above) p q + runs (mesh cubes n above) q p ≡ 2

@@ -4,6 +4,7 @@ use mathlib.Core.List.{List}
 use Prim.Native.Nat.{ℕ, _*_}
 use lib.ListN.{take}
 use Rattle.grid.specs.Grid.{Size}
+use Rattle.grid.specs.Mode.{Mode}
 use Rattle.extract.specs.Extraction.{Rooms, Outcome}
 use Rattle.extract.specs.Promise.{Extracts}
 use Rattle.smooth.specs.Promise.{Smooths}
@@ -27,12 +28,12 @@ meshLeft o =
 unfoldable pub edgesLeft : Outcome → List ℕ
 edgesLeft o = take (o .pointCount) (o .rooms .edges)
 
--- a mesh, and the grid edges of its points, that was extracted here from a grid of size n, smoothed here or not
-pub data Here (n : Size) : Mesh → List ℕ → Type 0 where
+-- a mesh, and the grid edges of its points, that was extracted here from a grid of size n by a mode, smoothed here or not
+pub data Here (mode : Mode) (n : Size) : Mesh → List ℕ → Type 0 where
   -- what a granted call of the extractor left
-  extracted-here : (grey : ℕ) (samples : List ℕ) (before : Rooms) (after : Outcome) → Extracts (n .nx) (n .ny) (n .nz) grey samples before after
-      → after .number ≡ 0 → Here n (meshLeft after) (edgesLeft after)
+  extracted-here : (grey : ℕ) (samples : List ℕ) (before : Rooms) (after : Outcome) → Extracts mode (n .nx) (n .ny) (n .nz) grey samples before after
+      → after .number ≡ 0 → Here mode n (meshLeft after) (edgesLeft after)
   -- what a granted call of smoothing on such a mesh left in the second point list, as the points of the same triangles and marks
-  smoothed-here : {m : Mesh} {edges : List ℕ} → Here n m edges → (k w : ℕ) (second work after left : List ℕ)
+  smoothed-here : {m : Mesh} {edges : List ℕ} → Here mode n m edges → (k w : ℕ) (second work after left : List ℕ)
       → Smooths (m .points) (m .triangles) (m .marks) k w second work 0 after left
-      → Here n (record { points = after; triangles = m .triangles; marks = m .marks }) edges
+      → Here mode n (record { points = after; triangles = m .triangles; marks = m .marks }) edges

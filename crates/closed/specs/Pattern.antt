@@ -1,13 +1,18 @@
--- How cells are cut, as a table of faces: each face as the ring of its corners, gone round counterclockwise as seen from outside. The law of cells reads
--- any such table; `cubes` is document 01's.
+-- What a mode owes to demand 3: a table of the faces along which its cubes are cut, and that faces, edges and triangles fit together. Whoever cuts cubes in another way shows
+-- this, and has all theorems of this crate.
 use mathlib.Core.Path.{_≡_}
-use mathlib.Core.List.{List, [], _∷_, map}
-use mathlib.Core.Bool.{Bool}
-use Prim.Native.Nat.{ℕ, _+_}
-use Rattle.laws.specs.Mesh.{Triangle, total}
+use mathlib.Core.List.{List, [], _∷_, _++_, map}
+use mathlib.Core.Bool.{Bool, true, false, _&&_}
+use Prim.Native.Nat.{ℕ, _+_, _^_, min, max}
+use lib.Dec.{eqb}
+use Rattle.laws.specs.Sum.{All}
+use Rattle.laws.specs.Order.{rearranged}
+use Rattle.laws.specs.Mesh.{Arrow, arrow, sides, total}
 use Rattle.cube.specs.Cube.{caseOf, edgeBetween}
-use Rattle.cube.specs.Face.{faceSegments, back}
-use Rattle.cube.specs.Answer.{cubeFaces, triangles}
+use Rattle.cube.specs.Face.{goRound, faceSegments, segmentsOf, back}
+use Rattle.cube.specs.Answer.{cubeFaces}
+use Rattle.grid.specs.Grid.{along}
+use Rattle.grid.specs.Mode.{Mode, directionOf, high, CubeEdge, SidesCut}
 
 -- a ring of corners, corner c being x + 2y + 4z, and the ring d corners further on
 abbrev pub Ring : Type 0
@@ -16,8 +21,8 @@ Ring = List ℕ
 abbrev pub further : ℕ → Ring → Ring
 further d ring = map (λ c. c + d) ring
 
--- `edge` numbers the edge between two corners; `faces` are those of all pieces of a cell; `low-x` are those at its side towards the smaller x, and so
--- on; `inner` has one side of each face between two pieces; `triangles` by which corners are above
+-- The table of faces, each as the ring of its corners, gone round counterclockwise as seen from outside. `edge` numbers the edge between two corners; `faces` are those of all
+-- pieces of a cube; `low-x` are those at its side towards the smaller x, and so on; `inner` has one side of each face between two pieces.
 pub record Pattern : Type 0 where
   pub edge : ℕ → ℕ → ℕ
   pub faces : List Ring
@@ -25,16 +30,64 @@ pub record Pattern : Type 0 where
   pub low-y : List Ring
   pub low-z : List Ring
   pub inner : List Ring
-  pub triangles : (ℕ → Bool) → List Triangle
+
+unfoldable pub sameRing : Ring → Ring → Bool
+sameRing [] [] = true
+sameRing [] (d ∷ ds) = false
+sameRing (c ∷ cs) [] = false
+sameRing (c ∷ cs) (d ∷ ds) = eqb c d && sameRing cs ds
+
+-- rings, and others seen from the other side
+unfoldable pub andBack : List Ring → List Ring → List Ring
+andBack rs ss = rs ++ map back ss
+
+-- the faces as they have to be: the low sides; the high sides, which are the next cubes' low sides seen from this cube; the inner faces from both sides
+unfoldable pub fitted : Pattern → List Ring
+fitted p =
+    andBack (p .low-x) (map (further 1) (p .low-x))
+    ++ (andBack (p .low-y) (map (further 2) (p .low-y)) ++ (andBack (p .low-z) (map (further 4) (p .low-z)) ++ andBack (p .inner) (p .inner)))
 
 -- a face seen from the other side has the same segments, running the other way, whatever a segment weighs
 abbrev pub TurnsRound : (ℕ → ℕ → ℕ) → Ring → Type 0
 TurnsRound edge r = (above : ℕ → Bool) (w : ℕ → ℕ → ℕ)
     → total w (faceSegments above edge (back r)) ≡ total (λ i j. w j i) (faceSegments above edge r)
 
+-- Two neighbouring corners of a face at the low side across an axis. The edge between them goes from the one to the other and lies in that side; and the same edge, seen from
+-- the cube before this one, is that cube's edge between the same corners further on.
+pub record LowEdge (m : Mode) (p : Pattern) (axis : ℕ) (s : Arrow) : Type 0 where
+  pub edge : CubeEdge m (p .edge (s .from) (s .to))
+  pub leaves : m .low (p .edge (s .from) (s .to)) ≡ min (s .from) (s .to)
+  pub comes : high m (p .edge (s .from) (s .to)) ≡ max (s .from) (s .to)
+  pub from-low : along (s .from) axis ≡ 0
+  pub to-low : along (s .to) axis ≡ 0
+  pub flat : along (directionOf m (p .edge (s .from) (s .to))) axis ≡ 0
+  pub next-low : m .low (p .edge (s .from + 2 ^ axis) (s .to + 2 ^ axis)) ≡ m .low (p .edge (s .from) (s .to)) + 2 ^ axis
+  pub next-code : m .code (p .edge (s .from + 2 ^ axis) (s .to + 2 ^ axis)) ≡ m .code (p .edge (s .from) (s .to))
+
+pub record Owed (m : Mode) : Type 0 where
+  pub pattern : Pattern
+  -- each corner of a case's triangles is an edge of the cube that is crossed in that case, and no side joins an edge to itself
+  pub cut : SidesCut m
+  -- a cube's triangles run as the segments of its faces, whatever an arrow weighs
+  pub even : (above : ℕ → Bool) (w : ℕ → ℕ → ℕ)
+      → let there = sides (m .triangles (caseOf above)) in
+      let cuts = segmentsOf above (pattern .edge) (pattern .faces) in
+      total w there + total (λ i j. w j i) cuts ≡ total (λ i j. w j i) there + total w cuts
+  -- the faces fit together, inside a cube and from cube to cube
+  pub fit : rearranged sameRing (pattern .faces) (fitted pattern) ≡ true
+  -- the faces at the high sides and inside turn round
+  pub turn-x : All (TurnsRound (pattern .edge)) (map (further 1) (pattern .low-x))
+  pub turn-y : All (TurnsRound (pattern .edge)) (map (further 2) (pattern .low-y))
+  pub turn-z : All (TurnsRound (pattern .edge)) (map (further 4) (pattern .low-z))
+  pub turn-inner : All (TurnsRound (pattern .edge)) (pattern .inner)
+  -- the edges at the low sides lie there, and are the edges at the high sides of the cubes before
+  pub side-x : All (λ r. All (LowEdge m pattern 0) (goRound arrow r)) (pattern .low-x)
+  pub side-y : All (λ r. All (LowEdge m pattern 1) (goRound arrow r)) (pattern .low-y)
+  pub side-z : All (λ r. All (LowEdge m pattern 2) (goRound arrow r)) (pattern .low-z)
+
 -- whole cubes: the faces are document 01's, and those at the low sides are the first, third and fifth of them
-abbrev pub cubes : Pattern
-cubes =
+abbrev pub cubePattern : Pattern
+cubePattern =
     record {
       edge = edgeBetween;
       faces = cubeFaces;
@@ -42,5 +95,4 @@ cubes =
       low-y = (0 ∷ 1 ∷ 5 ∷ 4 ∷ []) ∷ [];
       low-z = (0 ∷ 2 ∷ 3 ∷ 1 ∷ []) ∷ [];
       inner = [];
-      triangles = λ above. triangles (caseOf above);
     }

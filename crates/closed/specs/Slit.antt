@@ -8,7 +8,8 @@ use Rattle.laws.specs.Mesh.{Triangle, triangle, rename}
 use Rattle.cube.specs.Answer.{triangles}
 use Rattle.grid.specs.Grid.{axes}
 use Rattle.grid.specs.Point.{number}
-use Rattle.grid.specs.Mesh.{gridEdge, caseAt}
+use Rattle.grid.specs.Mode.{cubes}
+use Rattle.grid.specs.Mesh.{caseAt, gridEdge}
 use Rattle.closed.specs.Fourfold.{twoCubes, twoCubesAbove}
 
 abbrev pub wrongCase : ℕ
@@ -21,4 +22,4 @@ wrongTriangles k = cond (eqb k wrongCase) (map (λ t. triangle (t .one) (t .thre
 unfoldable pub wrongMesh : List Triangle
 wrongMesh =
     map (rename (number axes twoCubes twoCubesAbove))
-    (joinBox 1 1 2 (λ x y z. map (rename (gridEdge twoCubes x y z)) (wrongTriangles (caseAt twoCubes twoCubesAbove x y z))))
+    (joinBox 1 1 2 (λ x y z. map (rename (gridEdge cubes twoCubes x y z)) (wrongTriangles (caseAt twoCubes twoCubesAbove x y z))))

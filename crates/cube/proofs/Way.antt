@@ -1,12 +1,12 @@
--- The face rule, for a way round any face: edges may be renamed before or after, and both ends of a segment are crossed edges of the face.
-use mathlib.Core.Path.{_≡_, refl}
+-- The face rule, for a way round any face: corners and edges may be renamed before or after, and both ends of a segment are crossed edges of the face.
+use mathlib.Core.Path.{_≡_, refl, ap}
 use mathlib.Core.List.{List, [], _∷_, _++_, map, map-append, List·Memᴰ}
 use mathlib.Core.Bool.{Bool, true, false, cond, not, _&&_, xor, false≢true}
 use Prim.Native.Nat.{ℕ}
 use Rattle.laws.specs.Sum.{All}
 use Rattle.laws.specs.Mesh.{Arrow, arrow}
 use Rattle.laws.proofs.Sums.{all-append, all-weaken, all-mapped}
-use Rattle.cube.specs.Face.{Step, entersRun, leavesRun, leftBy, cutRuns, cuts}
+use Rattle.cube.specs.Face.{Step, entersRun, leavesRun, leftBy, cutRuns, cuts, roundFrom, goRound}
 
 -- a step by the renamed edge, and an arrow between the renamed edges
 abbrev pub byNamed : (ℕ → ℕ) → Step → Step
@@ -14,6 +14,29 @@ byNamed r s = record { leaving = s .leaving; by = r (s .by); coming = s .coming 
 
 abbrev pub arrowNamed : (ℕ → ℕ) → Arrow → Arrow
 arrowNamed r a = arrow (r (a .from)) (r (a .to))
+
+-- going round a ring whose corners are renamed, and making something else of each step
+module _ {A B : Type 0} (f : ℕ → ℕ → A) (g : A → B) where
+  round-mapped-from : (first c : ℕ) (ds : List ℕ) → map g (roundFrom f first c ds) ≡ roundFrom (λ c d. g (f c d)) first c ds
+  unfolding roundFrom
+  round-mapped-from first c [] = refl
+  round-mapped-from first c (d ∷ ds) = ap (λ later. g (f c d) ∷ later) (round-mapped-from first d ds)
+
+  pub round-mapped : (ring : List ℕ) → map g (goRound f ring) ≡ goRound (λ c d. g (f c d)) ring
+  unfolding goRound
+  round-mapped [] = refl
+  round-mapped (c ∷ cs) = round-mapped-from c c cs
+
+module _ {A : Type 0} (f : ℕ → ℕ → A) (r : ℕ → ℕ) where
+  round-renamed-from : (first c : ℕ) (ds : List ℕ) → roundFrom f (r first) (r c) (map r ds) ≡ roundFrom (λ c d. f (r c) (r d)) first c ds
+  unfolding roundFrom
+  round-renamed-from first c [] = refl
+  round-renamed-from first c (d ∷ ds) = ap (λ later. f (r c) (r d) ∷ later) (round-renamed-from first d ds)
+
+  pub round-renamed : (ring : List ℕ) → goRound f (map r ring) ≡ goRound (λ c d. f (r c) (r d)) ring
+  unfolding goRound
+  round-renamed [] = refl
+  round-renamed (c ∷ cs) = round-renamed-from c c cs
 
 choose : {A B : Type 0} (f : A → B) (b : Bool) (x y : A) → cond b (f x) (f y) ≡ f (cond b x y)
 choose f true x y = refl

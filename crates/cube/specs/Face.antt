@@ -34,21 +34,24 @@ unfoldable pub cuts : List Step → List Arrow
 unfolding cutRuns leftBy
 cuts round = cutRuns round round
 
--- A face is the ring of its corners, gone round counterclockwise as seen from outside. `above` says which corners are above, and `edge` numbers
--- the edge between two corners.
+-- A face is the ring of its corners, gone round counterclockwise as seen from outside: on from each corner to the next, and from the last back to the first.
+unfoldable pub roundFrom : {A : Type 0} → (ℕ → ℕ → A) → ℕ → ℕ → List ℕ → List A
+roundFrom f first c [] = f c first ∷ []
+roundFrom f first c (d ∷ ds) = f c d ∷ roundFrom f first d ds
+
+unfoldable pub goRound : {A : Type 0} → (ℕ → ℕ → A) → List ℕ → List A
+unfolding roundFrom
+goRound f [] = []
+goRound f (c ∷ cs) = roundFrom f c c cs
+
+-- `above` says which corners are above, and `edge` numbers the edge between two corners
 module _ (above : ℕ → Bool) (edge : ℕ → ℕ → ℕ) where
   abbrev pub step : ℕ → ℕ → Step
   step c d = record { leaving = above c; by = edge c d; coming = above d }
 
-  -- on from corner c through the corners ds, and back to the first
-  stepsFrom : ℕ → ℕ → List ℕ → List Step
-  stepsFrom first c [] = step c first ∷ []
-  stepsFrom first c (d ∷ ds) = step c d ∷ stepsFrom first d ds
-
   unfoldable pub wayRound : List ℕ → List Step
-  unfolding stepsFrom
-  wayRound [] = []
-  wayRound (c ∷ cs) = stepsFrom c c cs
+  unfolding goRound
+  wayRound ring = goRound step ring
 
   unfoldable pub faceSegments : List ℕ → List Arrow
   faceSegments ring = cuts (wayRound ring)

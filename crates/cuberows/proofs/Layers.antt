@@ -16,6 +16,7 @@ use Rattle.laws.proofs.Box.{sumBox, sum-box-cong, length-box}
 use Rattle.cube.specs.Answer.{mostCaseTriangles, count, triangles}
 use Rattle.grid.specs.Limits.{mostSide}
 use Rattle.cube.proofs.Corners.{case-small}
+use Rattle.grid.specs.Mode.{cubes}
 use Rattle.grid.specs.Mesh.{cornerSite, gridEdge, caseAt, cubeTriangles, edgeMesh}
 use Rattle.masks.specs.Masks.{wordCubes}
 use Rattle.rows.specs.declared.Sides.{Sides}
@@ -143,11 +144,11 @@ module _ (sides : Sides) (masks : List ℕ) where
   pub layers-most : (n : ℕ) → sides .nx ≤ mostSide → sides .ny ≤ mostSide → sumTo n (layerCount sides masks) ≤ mostInLayer * n
   layers-most n h k = sum-most mostInLayer n (layerCount sides masks) (λ z l. layer-most z h k)
 
-  pub mesh-count : sumTo (sides .nz - 1) (layerCount sides masks) ≡ length (edgeMesh (sizeOf sides) (wordsAbove sides masks))
+  pub mesh-count : sumTo (sides .nz - 1) (layerCount sides masks) ≡ length (edgeMesh cubes (sizeOf sides) (wordsAbove sides masks))
   unfolding layerCount count edgeMesh cubeTriangles sumBox
   mesh-count =
       let n = sizeOf sides in
       let above = wordsAbove sides masks in
-      sum-box-cong (sides .nx - 1) (sides .ny - 1) (sides .nz - 1) (λ x y z. count (caseAt n above x y z)) (λ x y z. length (cubeTriangles n above x y z))
-      (λ x y z lx ly lz. sym (length-map (triangles (caseAt n above x y z)) (rename (gridEdge n x y z))))
-      ∙ sym (length-box (sides .nx - 1) (sides .ny - 1) (sides .nz - 1) (cubeTriangles n above))
+      sum-box-cong (sides .nx - 1) (sides .ny - 1) (sides .nz - 1) (λ x y z. count (caseAt n above x y z)) (λ x y z. length (cubeTriangles cubes n above x y z))
+      (λ x y z lx ly lz. sym (length-map (triangles (caseAt n above x y z)) (rename (gridEdge cubes n x y z))))
+      ∙ sym (length-box (sides .nx - 1) (sides .ny - 1) (sides .nz - 1) (cubeTriangles cubes n above))

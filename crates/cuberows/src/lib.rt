@@ -4,6 +4,7 @@ ghost use Prim.Native.Nat.{_+_, _*_, _≤_, _<_};
 ghost use lib.ListN.{length};
 ghost use Rattle.laws.specs.Bits.{wordBits};
 ghost use Rattle.cube.specs.Promise.{Counts};
+ghost use Rattle.grid.specs.Mode.{cubes};
 ghost use Rattle.grid.specs.Mesh.{edgeMesh};
 ghost use Rattle.grid.specs.Work.{size, SidesFit};
 ghost use Rattle.masks.specs.Masks.{rowWords, maskAbove, Agreeing};
@@ -98,7 +99,7 @@ pub fn count(nx: usize, ny: usize, nz: usize, masks: &[u64]) -> u32
     requires { ⌜ SidesFit nx ny nz ⌝ }
     requires { ⌜ rowWords nx * (ny * nz) ≤ length (now masks) ⌝ }
     requires { ⌜ Agreeing nx (ny * nz) (now masks) ⌝ }
-    ensures { λ r. ⌜ r ≡ length (edgeMesh (size nx ny nz) (maskAbove nx (now (masks .entry)))) ⌝ }
+    ensures { λ r. ⌜ r ≡ length (edgeMesh cubes (size nx ny nz) (maskAbove nx (now (masks .entry)))) ⌝ }
 {
     let counts = cube::counts();
     let sides = Sides {

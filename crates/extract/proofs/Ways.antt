@@ -12,6 +12,7 @@ use Rattle.laws.specs.Mesh.{flat}
 use Rattle.grid.specs.Limits.{mostPoints, mostTriangles}
 use Rattle.grid.specs.Grid.{axes, isAboveGrey, mark}
 use Rattle.grid.specs.Point.{pointEdges, number, place}
+use Rattle.grid.specs.Mode.{cubes}
 use Rattle.grid.specs.Mesh.{edgeMesh, mesh}
 use Rattle.grid.specs.Work.{size, SidesFit}
 use Rattle.grid.proofs.Same.{points-same, mesh-same}
@@ -27,54 +28,54 @@ module _ (nx ny nz grey : ℕ) (samples masks : List ℕ) (fits : SidesFit nx ny
   same : (s : ℕ) → s < nx * (ny * nz) → maskAbove nx masks s ≡ isAboveGrey grey samples s
   same = told-above nx (ny * nz) (isAboveGrey grey samples) masks (fits .least-x) masked
 
-  pub points-are : (r : Rooms) → masksPoints ≡ pointList (size nx ny nz) grey samples r
+  pub points-are : (r : Rooms) → masksPoints ≡ pointList cubes (size nx ny nz) grey samples r
   points-are r =
       points-same (size nx ny nz) (omega (arith, fits .least-x)) (omega (arith, fits .least-y)) (maskAbove nx masks) (isAboveGrey grey samples) same axes
 
-  pub mesh-is : (r : Rooms) → mesh (size nx ny nz) (maskAbove nx masks) ≡ triangleList (size nx ny nz) grey samples r
+  pub mesh-is : (r : Rooms) → mesh cubes (size nx ny nz) (maskAbove nx masks) ≡ triangleList cubes (size nx ny nz) grey samples r
   mesh-is r =
-      mesh-same (size nx ny nz) (omega (arith, fits .least-x)) (omega (arith, fits .least-y)) (maskAbove nx masks) (isAboveGrey grey samples) same
+      mesh-same (size nx ny nz) (omega (arith, fits .least-x)) (omega (arith, fits .least-y)) (maskAbove nx masks) (isAboveGrey grey samples) same cubes
 
-  pub mesh-count : (r : Rooms) → length (edgeMesh (size nx ny nz) (maskAbove nx masks)) ≡ length (triangleList (size nx ny nz) grey samples r)
+  pub mesh-count : (r : Rooms) → length (edgeMesh cubes (size nx ny nz) (maskAbove nx masks)) ≡ length (triangleList cubes (size nx ny nz) grey samples r)
   unfolding mesh
-  mesh-count r = sym (length-map (edgeMesh (size nx ny nz) (maskAbove nx masks)) _) ∙ ap length (mesh-is r)
+  mesh-count r = sym (length-map (edgeMesh cubes (size nx ny nz) (maskAbove nx masks)) _) ∙ ap length (mesh-is r)
 
   module _ (r : Rooms) where
     abbrev Measured : Outcome → Type 0
-    Measured o = o ≡ measured (size nx ny nz) grey samples r
+    Measured o = o ≡ measured cubes (size nx ny nz) grey samples r
 
     -- the tests that were made of the masks are the definition's
-    points-tested : (found room : ℕ) → found ≡ length masksPoints → room ≡ pointRoom (size nx ny nz) grey samples r
+    points-tested : (found room : ℕ) → found ≡ length masksPoints → room ≡ pointRoom cubes (size nx ny nz) grey samples r
         → (b : Bool) → ltb (min mostPoints room) found ≡ b
-        → ltb (min mostPoints (pointRoom (size nx ny nz) grey samples r)) (length (pointList (size nx ny nz) grey samples r)) ≡ b
+        → ltb (min mostPoints (pointRoom cubes (size nx ny nz) grey samples r)) (length (pointList cubes (size nx ny nz) grey samples r)) ≡ b
     points-tested found room f q b t = rw (← q, ← (ap length (points-are r)), ← f) t
 
-    triangles-tested : (made : ℕ) → made ≡ length (edgeMesh (size nx ny nz) (maskAbove nx masks))
-        → (b : Bool) → ltb (min mostTriangles (triangleRoom (size nx ny nz) grey samples r)) made ≡ b
-        → ltb (min mostTriangles (triangleRoom (size nx ny nz) grey samples r)) (length (triangleList (size nx ny nz) grey samples r)) ≡ b
+    triangles-tested : (made : ℕ) → made ≡ length (edgeMesh cubes (size nx ny nz) (maskAbove nx masks))
+        → (b : Bool) → ltb (min mostTriangles (triangleRoom cubes (size nx ny nz) grey samples r)) made ≡ b
+        → ltb (min mostTriangles (triangleRoom cubes (size nx ny nz) grey samples r)) (length (triangleList cubes (size nx ny nz) grey samples r)) ≡ b
     triangles-tested made m b u = rw (← (mesh-count r), ← m) u
 
     -- more points than the limit or their rooms
-    pub too-many-points : (found room : ℕ) (work : List ℕ) → found ≡ length masksPoints → room ≡ pointRoom (size nx ny nz) grey samples r
+    pub too-many-points : (found room : ℕ) (work : List ℕ) → found ≡ length masksPoints → room ≡ pointRoom cubes (size nx ny nz) grey samples r
         → ltb (min mostPoints room) found ≡ true → work ≡ replicate (length (r .work)) 0
         → Measured (left 4 0 0 (rooms (r .points) (r .edges) (r .marks) (r .triangles) work))
     unfolding measured refused cleared
     too-many-points found room work f q t w = rw (points-tested found room f q true t, w)
 
     -- points within their rooms, and more triangles than the limit or their room
-    pub too-many-triangles : (found made room : ℕ) (work : List ℕ) → found ≡ length masksPoints → room ≡ pointRoom (size nx ny nz) grey samples r
-        → ltb (min mostPoints room) found ≡ false → made ≡ length (edgeMesh (size nx ny nz) (maskAbove nx masks))
-        → ltb (min mostTriangles (triangleRoom (size nx ny nz) grey samples r)) made ≡ true → work ≡ replicate (length (r .work)) 0
+    pub too-many-triangles : (found made room : ℕ) (work : List ℕ) → found ≡ length masksPoints → room ≡ pointRoom cubes (size nx ny nz) grey samples r
+        → ltb (min mostPoints room) found ≡ false → made ≡ length (edgeMesh cubes (size nx ny nz) (maskAbove nx masks))
+        → ltb (min mostTriangles (triangleRoom cubes (size nx ny nz) grey samples r)) made ≡ true → work ≡ replicate (length (r .work)) 0
         → Measured (left 5 0 0 (rooms (r .points) (r .edges) (r .marks) (r .triangles) work))
     unfolding measured refused cleared
     too-many-triangles found made room work f q t m u w = rw (points-tested found room f q false t, triangles-tested made m true u, w)
 
-    pub all-granted : (found made room : ℕ) (after : Rooms) → found ≡ length masksPoints → room ≡ pointRoom (size nx ny nz) grey samples r
-        → ltb (min mostPoints room) found ≡ false → made ≡ length (edgeMesh (size nx ny nz) (maskAbove nx masks))
-        → ltb (min mostTriangles (triangleRoom (size nx ny nz) grey samples r)) made ≡ false
+    pub all-granted : (found made room : ℕ) (after : Rooms) → found ≡ length masksPoints → room ≡ pointRoom cubes (size nx ny nz) grey samples r
+        → ltb (min mostPoints room) found ≡ false → made ≡ length (edgeMesh cubes (size nx ny nz) (maskAbove nx masks))
+        → ltb (min mostTriangles (triangleRoom cubes (size nx ny nz) grey samples r)) made ≡ false
         → after .points ≡ laid (flatMap (place axes (size nx ny nz) grey samples) masksPoints) (r .points) → after .edges ≡ laid masksPoints (r .edges)
         → after .marks ≡ laid (map (mark axes (size nx ny nz)) masksPoints) (r .marks)
-        → after .triangles ≡ laid (flat (mesh (size nx ny nz) (maskAbove nx masks))) (r .triangles) → after .work ≡ replicate (length (r .work)) 0
+        → after .triangles ≡ laid (flat (mesh cubes (size nx ny nz) (maskAbove nx masks))) (r .triangles) → after .work ≡ replicate (length (r .work)) 0
         → Measured (left 0 found made after)
     unfolding measured granted
     all-granted found made room after f q t m u p e k s w =
@@ -101,6 +102,6 @@ module _ (nx ny nz grey : ℕ) (samples masks : List ℕ) (fits : SidesFit nx ny
       let l = ltb-false (min mostPoints room) found t in
       (omega (arith, l, f, q), omega (arith, l, f, q), omega (arith, l, f, q))
 
-  pub triangles-hold : (made room : ℕ) → made ≡ length (edgeMesh (size nx ny nz) (maskAbove nx masks)) → ltb (min mostTriangles (room / 3)) made ≡ false
-      → 3 * length (edgeMesh (size nx ny nz) (maskAbove nx masks)) ≤ room
+  pub triangles-hold : (made room : ℕ) → made ≡ length (edgeMesh cubes (size nx ny nz) (maskAbove nx masks)) → ltb (min mostTriangles (room / 3)) made ≡ false
+      → 3 * length (edgeMesh cubes (size nx ny nz) (maskAbove nx masks)) ≤ room
   triangles-hold made room m u = let l = ltb-false (min mostTriangles (room / 3)) made u in omega (arith, l, m)

@@ -8,8 +8,9 @@ use Rattle.laws.specs.Room.{laid}
 use Rattle.laws.specs.Mesh.{Triangle, flat}
 use Rattle.grid.specs.Limits.{mostPoints, mostTriangles}
 use Rattle.grid.specs.Sides.{sidesFit}
-use Rattle.grid.specs.Grid.{Size, axes, sampleCount, edgeCount, isAboveGrey, mark}
+use Rattle.grid.specs.Grid.{Size, sampleCount, edgeCount, isAboveGrey, mark}
 use Rattle.grid.specs.Point.{pointEdges, place}
+use Rattle.grid.specs.Mode.{Mode}
 use Rattle.grid.specs.Mesh.{mesh}
 use Rattle.grid.specs.Work.{size}
 
@@ -37,13 +38,14 @@ unfoldable pub cleared : Rooms → Rooms
 cleared r =
     record { points = r .points; edges = r .edges; marks = r .marks; triangles = r .triangles; work = replicate (length (r .work)) 0 }
 
-module _ (n : Size) (grey : ℕ) (samples : List ℕ) (r : Rooms) where
+-- the cubes cut by a mode: `cubes` for the extractor of document 01, whose plain reading is in crates/grid/proofs/Plain.antt
+module _ (m : Mode) (n : Size) (grey : ℕ) (samples : List ℕ) (r : Rooms) where
   -- the crossed grid edges in rising order, a point on each, and the triangles
   abbrev pub pointList : List ℕ
-  pointList = pointEdges axes n (isAboveGrey grey samples)
+  pointList = pointEdges (m .kind) n (isAboveGrey grey samples)
 
   abbrev pub triangleList : List Triangle
-  triangleList = mesh n (isAboveGrey grey samples)
+  triangleList = mesh m n (isAboveGrey grey samples)
 
   -- a room for points or triangles counts its whole threes
   abbrev pub pointRoom : ℕ
@@ -61,9 +63,9 @@ module _ (n : Size) (grey : ℕ) (samples : List ℕ) (r : Rooms) where
         triangleCount = length triangleList;
         rooms =
             record {
-              points = laid (flatMap (place axes n grey samples) pointList) (r .points);
+              points = laid (flatMap (place (m .kind) n grey samples) pointList) (r .points);
               edges = laid pointList (r .edges);
-              marks = laid (map (mark axes n) pointList) (r .marks);
+              marks = laid (map (mark (m .kind) n) pointList) (r .marks);
               triangles = laid (flat triangleList) (r .triangles);
               work = replicate (length (r .work)) 0;
             };
@@ -76,9 +78,9 @@ module _ (n : Size) (grey : ℕ) (samples : List ℕ) (r : Rooms) where
       (cond (ltb (min mostTriangles triangleRoom) (length triangleList)) (refused 5 (cleared r)) granted)
 
 -- the refusals in the document's order, and the granted case
-unfoldable pub extracted : ℕ → ℕ → ℕ → ℕ → List ℕ → Rooms → Outcome
-extracted nx ny nz grey samples r =
+unfoldable pub extracted : Mode → ℕ → ℕ → ℕ → ℕ → List ℕ → Rooms → Outcome
+extracted m nx ny nz grey samples r =
     let n = size nx ny nz in
     cond (not (sidesFit nx ny nz)) (refused 1 r)
     (cond (not (eqb (length samples) (sampleCount n))) (refused 2 r)
-    (cond (not (eqb (length (r .work)) (edgeCount axes n))) (refused 3 r) (measured n grey samples r)))
+    (cond (not (eqb (length (r .work)) (edgeCount (m .kind) n))) (refused 3 r) (measured m n grey samples r)))

@@ -3,6 +3,7 @@ use mathlib.Core.Path.{_≡_}
 use mathlib.Core.List.{List}
 use Prim.Native.Nat.{ℕ}
 use Rattle.grid.specs.Work.{size}
+use Rattle.grid.specs.Mode.{Mode}
 use Rattle.extract.specs.Extraction.{Rooms, Outcome, measured, extracted}
 
 abbrev pub rooms : List ℕ → List ℕ → List ℕ → List ℕ → List ℕ → Rooms
@@ -14,9 +15,9 @@ left number pointCount triangleCount after =
     record { number = number; pointCount = pointCount; triangleCount = triangleCount; rooms = after }
 
 -- a call on these rooms may leave this behind
-abbrev pub Extracts : ℕ → ℕ → ℕ → ℕ → List ℕ → Rooms → Outcome → Type 0
-Extracts nx ny nz grey samples before after = after ≡ extracted nx ny nz grey samples before
+abbrev pub Extracts : Mode → ℕ → ℕ → ℕ → ℕ → List ℕ → Rooms → Outcome → Type 0
+Extracts m nx ny nz grey samples before after = after ≡ extracted m nx ny nz grey samples before
 
 -- the same, where sides and lengths are known to be right
-abbrev pub Measures : ℕ → ℕ → ℕ → ℕ → List ℕ → Rooms → Outcome → Type 0
-Measures nx ny nz grey samples before after = after ≡ measured (size nx ny nz) grey samples before
+abbrev pub Measures : Mode → ℕ → ℕ → ℕ → ℕ → List ℕ → Rooms → Outcome → Type 0
+Measures m nx ny nz grey samples before after = after ≡ measured m (size nx ny nz) grey samples before

@@ -4,6 +4,7 @@ ghost use Prim.Native.Nat.{min};
 ghost use lib.Dec.{ltb};
 ghost use lib.ListN.{length, replicate};
 ghost use Rattle.grid.specs.Grid.{axes, sampleCount, edgeCount};
+ghost use Rattle.grid.specs.Mode.{cubes};
 ghost use Rattle.grid.specs.Work.{size, SidesFit};
 ghost use Rattle.extract.specs.Promise.{rooms, left, Extracts, Measures};
 use grid::limits::MOST_POINTS;
@@ -65,7 +66,7 @@ fn measured(
     ensures { λ r.
         let before = rooms (now (points .entry)) (now (edges .entry)) (now (marks .entry)) (now (triangles .entry)) (now (work .entry)) in
         let after = rooms (now (points .exit)) (now (edges .exit)) (now (marks .exit)) (now (triangles .exit)) (now (work .exit)) in
-        ⌜ Measures nx ny nz grey (now (samples .entry)) before (left (r .number) (r .points) (r .triangles) after) ⌝ }
+        ⌜ Measures cubes nx ny nz grey (now (samples .entry)) before (left (r .number) (r .points) (r .triangles) after) ⌝ }
 {
     let mut masks = [0u64; MOST_WORDS];
     masks::fill(samples, nx, ny * nz, grey, &mut masks);
@@ -104,7 +105,7 @@ pub fn extract(
     ensures { λ r.
         let before = rooms (now (points .entry)) (now (edges .entry)) (now (marks .entry)) (now (triangles .entry)) (now (work .entry)) in
         let after = rooms (now (points .exit)) (now (edges .exit)) (now (marks .exit)) (now (triangles .exit)) (now (work .exit)) in
-        ⌜ Extracts nx ny nz grey (now (samples .entry)) before (left (r .number) (r .points) (r .triangles) after) ⌝ }
+        ⌜ Extracts cubes nx ny nz grey (now (samples .entry)) before (left (r .number) (r .points) (r .triangles) after) ⌝ }
 {
     if !grid::sides_fit(nx, ny, nz) {
         return refused(1);

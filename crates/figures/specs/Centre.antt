@@ -8,6 +8,7 @@ use Rattle.laws.specs.Values.{listTo}
 use Rattle.laws.specs.Mesh.{triangle, flat}
 use Rattle.grid.specs.Grid.{Size, axes, isAboveGrey, mark}
 use Rattle.grid.specs.Point.{pointEdges, place}
+use Rattle.grid.specs.Mode.{cubes}
 use Rattle.grid.specs.Mesh.{mesh}
 use Rattle.mesh.specs.Mesh.{triangleCount, triangleAt, trianglesOf}
 use Rattle.rounds.specs.Round.{rounds}
@@ -37,7 +38,7 @@ unfoldable pub centreMarks : List ℕ
 centreMarks = map (mark axes centreSize) centreEdges
 
 unfoldable pub centreTriangles : List ℕ
-centreTriangles = flat (mesh centreSize (isAboveGrey centreGrey centreSamples))
+centreTriangles = flat (mesh cubes centreSize (isAboveGrey centreGrey centreSamples))
 
 -- the points after one round of weight 256
 unfoldable pub centreSmoothed : List ℕ

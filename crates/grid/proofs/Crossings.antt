@@ -2,21 +2,36 @@
 use mathlib.Core.Path.{_≡_, refl, ap, ap₂, sym, _∙_, fun-ext}
 use mathlib.Core.Bool.{Bool, true, false, _&&_, xor, and-true, and-false, false≢true}
 use Prim.Native.Nat.{ℕ, _+_, _*_, _-_, _/_, _%_, _^_, _<_, _≤_}
-use native.Mathlib.Nat.{mul-zero, add-zero, zero-add, mul-one, mul-comm, le-div-iff-mul-le}
+use native.Mathlib.Nat.{mul-zero, add-zero, add-comm, zero-add, mul-one, mul-comm, le-div-iff-mul-le}
 use native.Mathlib.Decide.{decLt}
 use native.Mathlib.Omega.{arith}
 use lib.Dec.{ltb}
 use borrow.Author.Tests.{lt-ltb, le-ltb, ltb-true}
 use Rattle.laws.proofs.Tests.{both}
-use Rattle.grid.specs.Grid.{Size, sampleCount, site, coordinate, side, Kind, axes, along, otherEnd, fitsAlong, isThere, crossedFrom, crossed}
+use Rattle.laws.proofs.Digits.{low-mod, low-div, low-lt}
+use Rattle.grid.specs.Grid.{Size, sampleCount, site, coordinate, side, Kind, axes, along, otherEnd, fitsAlong, isThere, crossedFrom, crossed, onFaceFrom, onFace}
 use Rattle.grid.proofs.Sites.{choose, site-add, site-of, site-small, coordinate-site}
 
--- grid edge 3s + a by its sample and its axis
-pub edge-sample : (s a : ℕ) → a < 3 → (3 * s + a) / 3 ≡ s
-edge-sample s a h = omega arith
+-- an edge's number has its sample and its code
+module _ (many s a : ℕ) (h : a < many) where
+  pub edge-sample : (many * s + a) / many ≡ s
+  edge-sample = rw (add-comm (many * s) a) (low-div a many s h)
 
-pub edge-axis : (s a : ℕ) → a < 3 → (3 * s + a) % 3 ≡ a
-edge-axis s a h = omega arith
+  pub edge-code : (many * s + a) % many ≡ a
+  edge-code = rw (add-comm (many * s) a) (low-mod a many s h)
+
+  pub edge-small : (samples : ℕ) → s < samples → many * s + a < many * samples
+  edge-small samples l = rw (add-comm (many * s) a) (low-lt a many s samples h l)
+
+-- so what is said of an edge by its number is said of the edge that leaves the sample in its direction
+module _ (k : Kind) (n : Size) (s a : ℕ) (h : a < k .many) where
+  pub crossed-at : (above : ℕ → Bool) → crossed k n above (k .many * s + a) ≡ crossedFrom k n above s (k .direction a)
+  unfolding crossed
+  crossed-at above = ap₂ (λ s a. crossedFrom k n above s (k .direction a)) (edge-sample (k .many) s a h) (edge-code (k .many) s a h)
+
+  pub on-face-at : (axis : ℕ) (last : Bool) → onFace k n axis last (k .many * s + a) ≡ onFaceFrom k n axis last s (k .direction a)
+  unfolding onFace
+  on-face-at axis last = ap₂ (λ s a. onFaceFrom k n axis last s (k .direction a)) (edge-sample (k .many) s a h) (edge-code (k .many) s a h)
 
 -- one sample along each axis
 module _ (n : Size) where
@@ -33,10 +48,6 @@ module _ (n : Size) where
   step-z = simp (mul-one, zero-add)
 
 module _ (n : Size) (above : ℕ → Bool) where
-  crossed-at : (s a : ℕ) → a < 3 → crossed axes n above (3 * s + a) ≡ crossedFrom axes n above s (2 ^ a)
-  unfolding crossed
-  crossed-at s a h = ap₂ (λ s a. crossedFrom axes n above s (2 ^ a)) (edge-sample s a h) (edge-axis s a h)
-
   -- of the three tests whether a sample is there, only the one along the edge can fail
   module _ (x y z : ℕ) (hx : x < n .nx) (hy : y < n .ny) (hz : z < n .nz) where
     abbrev s : ℕ
@@ -59,15 +70,15 @@ module _ (n : Size) (above : ℕ → Bool) where
     crossed-x =
         let e : 3 * s ≡ 3 * s + 0 = omega arith in
         ap (crossed axes n above) e
-        ∙ crossed-at s 0 (omega arith)
+        ∙ crossed-at axes n s 0 (omega arith) above
         ∙ tested 1
         ∙ rw (stays y (n .ny) hy, stays z (n .nz) hz, and-true, step-x n)
 
     pub crossed-y : crossed axes n above (3 * s + 1) ≡ (ltb (y + 1) (n .ny) && xor (above s) (above (s + n .nx)))
-    crossed-y = crossed-at s 1 (omega arith) ∙ tested 2 ∙ rw (stays x (n .nx) hx, stays z (n .nz) hz, and-true, step-y n)
+    crossed-y = crossed-at axes n s 1 (omega arith) above ∙ tested 2 ∙ rw (stays x (n .nx) hx, stays z (n .nz) hz, and-true, step-y n)
 
     pub crossed-z : crossed axes n above (3 * s + 2) ≡ (ltb (z + 1) (n .nz) && xor (above s) (above (s + n .nx * n .ny)))
-    crossed-z = crossed-at s 2 (omega arith) ∙ tested 4 ∙ rw (stays x (n .nx) hx, stays y (n .ny) hy, step-z n)
+    crossed-z = crossed-at axes n s 2 (omega arith) above ∙ tested 4 ∙ rw (stays x (n .nx) hx, stays y (n .ny) hy, step-z n)
 
 -- which edges are crossed depends on the samples of the grid alone
 module _ (k : Kind) (n : Size) (px : 0 < n .nx) (py : 0 < n .ny) (above other : ℕ → Bool)

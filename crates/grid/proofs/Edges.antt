@@ -1,27 +1,25 @@
--- The grid edges of a cube's twelve edges: they are edges of the grid, crossed when the cube edge is, and different ones are different.
+-- The grid edges of a cube's edges: they are edges of the grid, crossed when the cube's edge is, and different ones are different.
 use mathlib.Core.Path.{_≡_, refl, ap, ap₂, sym, _∙_}
-use mathlib.Core.Bool.{Bool, true, _&&_, xor}
-use Prim.Native.Nat.{ℕ, _+_, _*_, _/_, _%_, _^_, _<_}
+use mathlib.Core.Bool.{Bool, true, cond, _&&_, xor}
+use Prim.Native.Nat.{ℕ, _+_, _*_, _-_, _/_, _%_, _^_, _<_}
 use native.Mathlib.Nat.{add-assoc}
 use native.Mathlib.Omega.{arith}
 use lib.Dec.{eqb, ltb}
-use borrow.Author.Tests.{eqb-true, ltb-true, lt-ltb}
+use borrow.Author.Tests.{eqb-true, eq-eqb, ltb-true, lt-ltb}
 use Rattle.laws.specs.Range.{allTo}
+use Rattle.laws.specs.Sum.{All}
+use Rattle.laws.specs.Mesh.{Arrow, sides}
 use Rattle.laws.proofs.Tests.{both, all-at}
-use Rattle.cube.specs.Cube.{cornerX, cornerY, cornerZ, isAbove, axisOf, lowCorner, highCorner, edgeBetween, crossed as cubeCrossed}
-use Rattle.cube.proofs.Cases.{edge-between}
+use Rattle.laws.proofs.Sums.{all-weaken}
+use Rattle.cube.specs.Cube.{cubeEdgeCount, cornerX, cornerY, cornerZ, isAbove, axisOf, lowCorner, highCorner, edgeBetween, crossed as cubeCrossed}
+use Rattle.cube.specs.Answer.{triangles}
+use Rattle.cube.proofs.Cases.{CrossedEdge, CrossedSide, edge-between, sides-crossed}
 use Rattle.cube.proofs.Corners.{corner-of-case}
-use Rattle.grid.specs.Grid.{Size, axes, edgeCount, site, coordinate, side, along, otherEnd, fitsAlong, isThere, crossedFrom, crossed}
-use Rattle.grid.specs.Mesh.{cornerSite, gridEdge, caseAt}
-use Rattle.grid.proofs.Sites.{site-add, site-small, coordinate-site}
-use Rattle.grid.proofs.Crossings.{edge-sample, edge-axis}
-
-every-low-corner : allTo 12 (λ e. ltb (lowCorner e) 8) ≡ true
-unfolding allTo
-every-low-corner = refl
-
-low-corner-small : (e : ℕ) → e < 12 → lowCorner e < 8
-low-corner-small e h = ltb-true (lowCorner e) 8 (all-at 12 (λ e. ltb (lowCorner e) 8) every-low-corner e h)
+use Rattle.grid.specs.Grid.{Size, sampleCount, edgeCount, site, coordinate, side, along, otherEnd, fitsAlong, isThere, isOutermost, crossedFrom, crossed, onFaceFrom, onFace}
+use Rattle.grid.specs.Mode.{Mode, cubes, directionOf, high, CubeEdge, crossedIn, CutEdge, CutSide, SidesCut}
+use Rattle.grid.specs.Mesh.{cornerSite, caseAt, gridEdge}
+use Rattle.grid.proofs.Sites.{choose, site-add, site-small, coordinate-site}
+use Rattle.grid.proofs.Crossings.{edge-sample, edge-code, edge-small, crossed-at, on-face-at}
 
 -- a corner from its coordinates
 every-corner : allTo 8 (λ c. eqb (cornerX c + 2 * cornerY c + 4 * cornerZ c) c) ≡ true
@@ -33,87 +31,108 @@ corner-of c h =
     eqb-true (cornerX c + 2 * cornerY c + 4 * cornerZ c) c
     (all-at 8 (λ c. eqb (cornerX c + 2 * cornerY c + 4 * cornerZ c) c) every-corner c h)
 
--- an edge's upper corner is one step along the edge from its lower one
-steps : ℕ → Bool
-steps e =
-    let d = 2 ^ axisOf e in
-    eqb (cornerX (highCorner e)) (cornerX (lowCorner e) + along d 0)
-    && (eqb (cornerY (highCorner e)) (cornerY (lowCorner e) + along d 1) && eqb (cornerZ (highCorner e)) (cornerZ (lowCorner e) + along d 2))
+-- whether a number is that of an edge of the cube, as a test to be computed
+unfoldable pub isCubeEdge : Mode → ℕ → Bool
+isCubeEdge m e =
+    let low = m .low e in
+    let top = high m e in
+    let d = directionOf m e in
+    ltb (m .code e) (m .kind .many)
+    && (ltb top 8 && (eqb (cornerX top) (cornerX low + along d 0) && (eqb (cornerY top) (cornerY low + along d 1) && eqb (cornerZ top) (cornerZ low + along d 2))))
 
-every-edge-steps : allTo 12 steps ≡ true
-unfolding allTo steps
-every-edge-steps = refl
+pub cube-edge : (m : Mode) (e : ℕ) → isCubeEdge m e ≡ true → CubeEdge m e
+unfolding isCubeEdge
+cube-edge m e h =
+    let p = both (ltb (m .code e) (m .kind .many)) _ h in
+    let q = both (ltb (high m e) 8) _ (p .1) in
+    let r = both (eqb (cornerX (high m e)) _) _ (q .1) in
+    let s = both (eqb (cornerY (high m e)) _) _ (r .1) in
+    record {
+      coded = ltb-true (m .code e) (m .kind .many) (p .0);
+      ends = ltb-true (high m e) 8 (q .0);
+      step-x = eqb-true _ _ (r .0);
+      step-y = eqb-true _ _ (s .0);
+      step-z = eqb-true _ _ (s .1);
+    }
 
-edge-steps : (e : ℕ) → e < 12
-    → let d = 2 ^ axisOf e in
-    (cornerX (highCorner e) ≡ cornerX (lowCorner e) + along d 0)
-    × (cornerY (highCorner e) ≡ cornerY (lowCorner e) + along d 1)
-    × (cornerZ (highCorner e) ≡ cornerZ (lowCorner e) + along d 2)
-unfolding steps
-edge-steps e h =
-    let p = both _ _ (all-at 12 steps every-edge-steps e h) in
-    let q = both _ _ (p .1) in
-    (eqb-true _ _ (p .0), eqb-true _ _ (q .0), eqb-true _ _ (q .1))
+-- an edge of the cube at (x, y, z), whose upper corner stands in the grid
+module _ (m : Mode) (n : Size) (x y z e : ℕ) (edge : CubeEdge m e) where
+  abbrev low : ℕ
+  low = m .low e
 
--- and one of the eight
-every-high-small : allTo 12 (λ e. ltb (highCorner e) 8) ≡ true
-unfolding allTo
-every-high-small = refl
+  abbrev d : ℕ
+  d = directionOf m e
 
-high-small : (e : ℕ) → e < 12 → highCorner e < 8
-high-small e h = ltb-true (highCorner e) 8 (all-at 12 (λ e. ltb (highCorner e) 8) every-high-small e h)
+  abbrev s : ℕ
+  s = cornerSite n x y z low
 
-module _ (n : Size) (x y z : ℕ) where
-  -- the grid edge ends at the edge's upper corner
-  edge-end : (e : ℕ) → e < 12 → otherEnd n (cornerSite n x y z (lowCorner e)) (2 ^ axisOf e) ≡ cornerSite n x y z (highCorner e)
+  -- the grid edge ends at the upper corner
+  edge-end : otherEnd n s d ≡ cornerSite n x y z (high m e)
   unfolding otherEnd cornerSite
-  edge-end e h =
-      let s = edge-steps e h in
-      let c = lowCorner e in
-      let d = 2 ^ axisOf e in
+  edge-end =
       sym (rw (
-        s .0,
-        s .1,
-        s .2,
-        ← add-assoc x (cornerX c) (along d 0),
-        ← add-assoc y (cornerY c) (along d 1),
-        ← add-assoc z (cornerZ c) (along d 2),
+        edge .step-x,
+        edge .step-y,
+        edge .step-z,
+        ← add-assoc x (cornerX low) (along d 0),
+        ← add-assoc y (cornerY low) (along d 1),
+        ← add-assoc z (cornerZ low) (along d 2),
       )
-      (site-add n (x + cornerX c) (y + cornerY c) (z + cornerZ c) (along d 0) (along d 1) (along d 2)))
+      (site-add n (x + cornerX low) (y + cornerY low) (z + cornerZ low) (along d 0) (along d 1) (along d 2)))
 
+  module _ (hx : x + cornerX (high m e) < n .nx) (hy : y + cornerY (high m e) < n .ny) (hz : z + cornerZ (high m e) < n .nz) where
+    low-x : x + cornerX low < n .nx
+    low-x = omega (arith, edge .step-x)
+
+    low-y : y + cornerY low < n .ny
+    low-y = omega (arith, edge .step-y)
+
+    low-z : z + cornerZ low < n .nz
+    low-z = omega (arith, edge .step-z)
+
+    at : (axis : ℕ) → coordinate n axis s ≡ choose axis (x + cornerX low) (y + cornerY low) (z + cornerZ low)
+    unfolding cornerSite
+    at = coordinate-site n (x + cornerX low) (y + cornerY low) (z + cornerZ low) low-x low-y low-z
+
+    -- the grid edge is there
+    edge-there : isThere n s d ≡ true
+    unfolding isThere fitsAlong side
+    edge-there =
+        rw (
+          at 0,
+          at 1,
+          at 2,
+          lt-ltb (x + cornerX low + along d 0) (n .nx) (omega (arith, edge .step-x)),
+          lt-ltb (y + cornerY low + along d 1) (n .ny) (omega (arith, edge .step-y)),
+          lt-ltb (z + cornerZ low + along d 2) (n .nz) (omega (arith, edge .step-z)),
+        )
+
+    -- so it is crossed where the two corners differ
+    pub grid-edge-crossed : (above : ℕ → Bool) → xor (above s) (above (cornerSite n x y z (high m e))) ≡ true → crossed (m .kind) n above (gridEdge m n x y z e) ≡ true
+    unfolding gridEdge
+    grid-edge-crossed above differ = crossed-at (m .kind) n s (m .code e) (edge .coded) above ∙ there
+      where
+        there : crossedFrom (m .kind) n above s d ≡ true
+        there = unfold crossedFrom in rw (edge-there, edge-end) differ
+
+    pub grid-edge-small : gridEdge m n x y z e < edgeCount (m .kind) n
+    unfolding gridEdge cornerSite
+    grid-edge-small =
+        edge-small (m .kind .many) s (m .code e) (edge .coded) (sampleCount n) (site-small n (x + cornerX low) (y + cornerY low) (z + cornerZ low) low-x low-y low-z)
+
+    -- it lies on an outer face that it does not leave
+    pub grid-edge-on-face : (axis : ℕ) (last : Bool) → along d axis ≡ 0 → choose axis (x + cornerX low) (y + cornerY low) (z + cornerZ low) ≡ cond last (side n axis - 1) 0
+        → onFace (m .kind) n axis last (gridEdge m n x y z e) ≡ true
+    unfolding gridEdge
+    grid-edge-on-face axis last flat end = on-face-at (m .kind) n s (m .code e) (edge .coded) axis last ∙ there
+      where
+        there : onFaceFrom (m .kind) n axis last s d ≡ true
+        there =
+            unfold onFaceFrom isOutermost in
+            rw (flat, at axis, eq-eqb (choose axis (x + cornerX low) (y + cornerY low) (z + cornerZ low)) (cond last (side n axis - 1) 0) end)
+
+-- a cube of the grid
 module _ (n : Size) (x y z : ℕ) (hx : x + 1 < n .nx) (hy : y + 1 < n .ny) (hz : z + 1 < n .nz) where
-  -- the grid edge is there
-  edge-there : (e : ℕ) → e < 12 → isThere n (cornerSite n x y z (lowCorner e)) (2 ^ axisOf e) ≡ true
-  unfolding isThere fitsAlong side cornerSite
-  edge-there e h =
-      let s = edge-steps e h in
-      let c = lowCorner e in
-      let d = 2 ^ axisOf e in
-      let at = coordinate-site n (x + cornerX c) (y + cornerY c) (z + cornerZ c) (omega arith) (omega arith) (omega arith) in
-      rw (
-        at 0,
-        at 1,
-        at 2,
-        lt-ltb (x + cornerX c + along d 0) (n .nx) (omega arith),
-        lt-ltb (y + cornerY c + along d 1) (n .ny) (omega arith),
-        lt-ltb (z + cornerZ c + along d 2) (n .nz) (omega arith),
-      )
-
-  -- so it is crossed when the cube edge is
-  pub grid-edge-crossed : (e : ℕ) → e < 12 → (above : ℕ → Bool) → cubeCrossed (caseAt n above x y z) e ≡ true → crossed axes n above (gridEdge n x y z e) ≡ true
-  unfolding gridEdge caseAt cubeCrossed crossed crossedFrom
-  grid-edge-crossed e h above cut =
-      let s = cornerSite n x y z (lowCorner e) in
-      let corner : (c : ℕ) → c < 8 → isAbove (caseAt n above x y z) c ≡ above (cornerSite n x y z c) = corner-of-case (λ c. above (cornerSite n x y z c)) in
-      rw (edge-sample s (axisOf e) (omega arith), edge-axis s (axisOf e) (omega arith), edge-there e h, edge-end n x y z e h)
-      (ap₂ xor (sym (corner (lowCorner e) (omega (arith, high-small e h)))) (sym (corner (highCorner e) (high-small e h))) ∙ cut)
-
-  pub grid-edge-small : (e : ℕ) → e < 12 → gridEdge n x y z e < edgeCount axes n
-  unfolding gridEdge cornerSite
-  grid-edge-small e h =
-      let c = lowCorner e in
-      omega (arith, site-small n (x + cornerX c) (y + cornerY c) (z + cornerZ c) (omega arith) (omega arith) (omega arith))
-
   corner-one-to-one : (c d : ℕ) → c < 8 → d < 8 → cornerSite n x y z c ≡ cornerSite n x y z d → c ≡ d
   unfolding cornerSite
   corner-one-to-one c d h l q =
@@ -128,11 +147,39 @@ module _ (n : Size) (x y z : ℕ) (hx : x + 1 < n .nx) (hy : y + 1 < n .ny) (hz 
       sum-same : {a b c d e f : ℕ} → a ≡ d → b ≡ e → c ≡ f → a + 2 * b + 4 * c ≡ d + 2 * e + 4 * f
       sum-same p q r = omega arith
 
-  pub grid-edge-one-to-one : (e f : ℕ) → e < 12 → f < 12 → gridEdge n x y z e ≡ gridEdge n x y z f → e ≡ f
+  -- one grid edge is one edge of the cube
+  pub grid-edge-one-to-one : (m : Mode) (e f : ℕ) → CubeEdge m e → CubeEdge m f → gridEdge m n x y z e ≡ gridEdge m n x y z f
+      → (m .low e ≡ m .low f) × (m .code e ≡ m .code f)
   unfolding gridEdge
-  grid-edge-one-to-one e f h l q =
-      let s : cornerSite n x y z (lowCorner e) ≡ cornerSite n x y z (lowCorner f)
-      = sym (edge-sample _ (axisOf e) (omega arith)) ∙ ap (λ g. g / 3) q ∙ edge-sample _ (axisOf f) (omega arith) in
-      let a : axisOf e ≡ axisOf f = sym (edge-axis _ (axisOf e) (omega arith)) ∙ ap (λ g. g % 3) q ∙ edge-axis _ (axisOf f) (omega arith) in
-      let c : lowCorner e ≡ lowCorner f = corner-one-to-one (lowCorner e) (lowCorner f) (low-corner-small e h) (low-corner-small f l) s in
-      sym (edge-between e h) ∙ ap₂ (λ c a. edgeBetween c (c + 2 ^ a)) c a ∙ edge-between f l
+  grid-edge-one-to-one m e f p r q =
+      let many = m .kind .many in
+      let s : cornerSite n x y z (m .low e) ≡ cornerSite n x y z (m .low f)
+      = sym (edge-sample many _ (m .code e) (p .coded)) ∙ ap (λ g. g / many) q ∙ edge-sample many _ (m .code f) (r .coded) in
+      let a : m .code e ≡ m .code f = sym (edge-code many _ (m .code e) (p .coded)) ∙ ap (λ g. g % many) q ∙ edge-code many _ (m .code f) (r .coded) in
+      (corner-one-to-one (m .low e) (m .low f) (omega (arith, p .ends)) (omega (arith, r .ends)) s, a)
+
+-- what the mode of whole cubes owes: the twelve edges are edges of the cube, and by the table the sides of a case's triangles join two different crossed ones
+every-cube-edge : allTo cubeEdgeCount (isCubeEdge cubes) ≡ true
+unfolding allTo isCubeEdge
+every-cube-edge = refl
+
+pub cubes-edge : (e : ℕ) → e < cubeEdgeCount → CubeEdge cubes e
+cubes-edge e h = cube-edge cubes e (all-at cubeEdgeCount (isCubeEdge cubes) every-cube-edge e h)
+
+cubes-cut : (k e : ℕ) → CrossedEdge k e → CutEdge cubes k e
+unfolding crossedIn cubeCrossed
+cubes-cut k e c = record { edge = cubes-edge e (c .small); cut = c .cut }
+
+cubes-side : (k : ℕ) (s : Arrow) → CrossedSide k s → CutSide cubes k s
+cubes-side k s c =
+    let from = s .from in
+    let to = s .to in
+    record {
+      start = cubes-cut k from (c .start);
+      end = cubes-cut k to (c .end);
+      apart =
+          λ low code. c .apart (sym (edge-between from (c .start .small)) ∙ ap₂ (λ c a. edgeBetween c (c + 2 ^ a)) low code ∙ edge-between to (c .end .small));
+    }
+
+pub cubes-sides-cut : SidesCut cubes
+cubes-sides-cut k h = all-weaken (CrossedSide k) (CutSide cubes k) (cubes-side k) (sides (triangles k)) (sides-crossed k h)

@@ -1,22 +1,24 @@
 -- Grey value 0 makes all samples above, and the mesh empty (document 01, "Numbers and sizes").
-use mathlib.Core.Path.{_≡_}
-use mathlib.Core.List.{List, [], flatMap}
+use mathlib.Core.Path.{_≡_, refl}
+use mathlib.Core.List.{List, [], map, flatMap}
 use mathlib.Core.Bool.{Bool, true, false, xor, and-false}
 use Prim.Native.Nat.{ℕ, _-_, _/_, _%_}
 use lib.Dec.{leb·zero}
 use lib.ListN.{getD}
 use Rattle.laws.specs.Range.{joinBox, keepTo}
 use Rattle.laws.specs.Bits.{bits, bit}
+use Rattle.laws.specs.Mesh.{rename}
 use Rattle.laws.proofs.Ranges.{join-empty}
-use Rattle.cube.specs.Cube.{caseOf, isAbove}
+use Rattle.cube.specs.Cube.{cases, caseOf, isAbove}
 use Rattle.cube.specs.Face.{cuts, wayRound, faceSegments, segmentsOf}
 use Rattle.cube.specs.Loop.{loops, fan}
 use Rattle.cube.specs.Answer.{segments, triangles}
 use Rattle.grid.specs.Grid.{Size, Kind, axes, isAboveGrey, isThere, edgeCount, crossedFrom, crossed}
 use Rattle.grid.specs.Point.{pointEdges}
-use Rattle.grid.specs.Mesh.{caseAt, cubeTriangles, edgeMesh, mesh}
+use Rattle.grid.specs.Mode.{Mode, cubes}
+use Rattle.grid.specs.Mesh.{caseAt, gridEdge, cubeTriangles, edgeMesh, mesh}
 
--- no edge is crossed, and a cube with all corners above has no triangle
+-- no edge is crossed, and every cube has all corners above
 module _ (n : Size) (above : ℕ → Bool) (all : (s : ℕ) → above s ≡ true) where
   none-crossed : (k : Kind) (e : ℕ) → crossed k n above e ≡ false
   unfolding crossed crossedFrom xor
@@ -26,13 +28,21 @@ module _ (n : Size) (above : ℕ → Bool) (all : (s : ℕ) → above s ≡ true
   unfolding pointEdges keepTo
   no-points k = join-empty (edgeCount k n) _ (λ e. rw (none-crossed k e))
 
-  full-cube : (x y z : ℕ) → cubeTriangles n above x y z ≡ []
-  unfolding cubeTriangles caseAt caseOf bits triangles flatMap fan loops segments segmentsOf faceSegments cuts wayRound isAbove bit
-  full-cube x y z = simp all
+  full-case : (x y z : ℕ) → caseAt n above x y z ≡ cases - 1
+  unfolding caseAt caseOf bits
+  full-case x y z = simp all
 
-  pub no-triangles : mesh n above ≡ []
-  unfolding mesh edgeMesh joinBox
-  no-triangles = rw (join-empty (n .nz - 1) _ (λ z. join-empty (n .ny - 1) _ (λ y. join-empty (n .nx - 1) _ (λ x. full-cube x y z))))
+  pub no-triangles : (m : Mode) → m .triangles (cases - 1) ≡ [] → mesh m n above ≡ []
+  unfolding mesh edgeMesh joinBox cubeTriangles
+  no-triangles m none =
+      let empty : (x y z : ℕ) → map (rename (gridEdge m n x y z)) (m .triangles (caseAt n above x y z)) ≡ []
+      = λ x y z. rw (full-case x y z, none) in
+      rw (join-empty (n .nz - 1) _ (λ z. join-empty (n .ny - 1) _ (λ y. join-empty (n .nx - 1) _ (λ x. empty x y z))))
+
+-- the case with all corners above has no triangle
+none-in-full : cubes .triangles (cases - 1) ≡ []
+unfolding triangles flatMap fan loops segments segmentsOf faceSegments cuts wayRound isAbove bit
+none-in-full = refl
 
 module _ (n : Size) (samples : List ℕ) where
   pub all-above : (s : ℕ) → isAboveGrey 0 samples s ≡ true
@@ -42,5 +52,5 @@ module _ (n : Size) (samples : List ℕ) where
   pub grey-0-no-points : pointEdges axes n (isAboveGrey 0 samples) ≡ []
   grey-0-no-points = no-points n (isAboveGrey 0 samples) all-above axes
 
-  pub grey-0-no-triangles : mesh n (isAboveGrey 0 samples) ≡ []
-  grey-0-no-triangles = no-triangles n (isAboveGrey 0 samples) all-above
+  pub grey-0-no-triangles : mesh cubes n (isAboveGrey 0 samples) ≡ []
+  grey-0-no-triangles = no-triangles n (isAboveGrey 0 samples) all-above cubes none-in-full

@@ -8,3 +8,4 @@ pub mod Edges
 pub mod Sound
 pub mod Named
 pub mod Empty
+pub mod Plain

@@ -8,8 +8,9 @@ use lib.ListN.{length, getD}
 use Rattle.laws.specs.Mesh.{flat}
 use Rattle.laws.proofs.Lists.{map-cong}
 use Rattle.laws.proofs.Sides.{flat-renamed}
-use Rattle.grid.specs.Grid.{Size, axes}
+use Rattle.grid.specs.Grid.{Size}
 use Rattle.grid.specs.Point.{number}
+use Rattle.grid.specs.Mode.{Mode, SidesCut}
 use Rattle.grid.specs.Mesh.{edgeMesh, mesh}
 use Rattle.grid.specs.Work.{Numbered, nameOf}
 use Rattle.grid.proofs.Sound.{CrossedInGrid, corners-in-grid}
@@ -24,11 +25,12 @@ unfolding nameOf
 name-listed [] e h = absurd (h refl)
 name-listed (name ∷ names) e h = refl
 
-pub mesh-named : (n : Size) (above : ℕ → Bool) (work : List ℕ) → Numbered n above work → map (nameOf work) (flat (edgeMesh n above)) ≡ flat (mesh n above)
+pub mesh-named : (m : Mode) → SidesCut m → (n : Size) (above : ℕ → Bool) (work : List ℕ) → Numbered (m .kind) n above work
+    → map (nameOf work) (flat (edgeMesh m n above)) ≡ flat (mesh m n above)
 unfolding mesh
-mesh-named n above work given =
-    map-cong (CrossedInGrid n above) (nameOf work) (number axes n above)
+mesh-named m owed n above work given =
+    map-cong (CrossedInGrid m n above) (nameOf work) (number (m .kind) n above)
     (λ e c. name-listed work e (λ z. omega (arith, given .whole, c .small)) ∙ given .ranks e (c .small) (c .cut))
-    (flat (edgeMesh n above))
-    (corners-in-grid n above)
-    ∙ sym (flat-renamed (number axes n above) (edgeMesh n above))
+    (flat (edgeMesh m n above))
+    (corners-in-grid m n above owed)
+    ∙ sym (flat-renamed (number (m .kind) n above) (edgeMesh m n above))

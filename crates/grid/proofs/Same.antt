@@ -8,10 +8,10 @@ use Rattle.laws.specs.Range.{joinBox, countTo, keepTo}
 use Rattle.laws.specs.Mesh.{rename}
 use Rattle.laws.proofs.Ranges.{join-cong}
 use Rattle.cube.specs.Cube.{caseOf}
-use Rattle.cube.specs.Answer.{triangles}
-use Rattle.grid.specs.Grid.{Size, sampleCount, Kind, axes, edgeCount}
+use Rattle.grid.specs.Grid.{Size, sampleCount, Kind, edgeCount}
 use Rattle.grid.specs.Point.{pointEdges, number}
-use Rattle.grid.specs.Mesh.{cornerSite, gridEdge, caseAt, cubeTriangles, edgeMesh, mesh}
+use Rattle.grid.specs.Mode.{Mode}
+use Rattle.grid.specs.Mesh.{cornerSite, caseAt, gridEdge, cubeTriangles, edgeMesh, mesh}
 use Rattle.grid.proofs.Sites.{site-small}
 use Rattle.grid.proofs.Crossings.{crossed-cong}
 
@@ -36,13 +36,13 @@ module _ (n : Size) (px : 0 < n .nx) (py : 0 < n .ny) (above other : ℕ → Boo
       = λ c. same (cornerSite n x y z c) (corner-small x y z hx hy hz c) in
       rw (at 0, at 1, at 2, at 3, at 4, at 5, at 6, at 7)
 
-  pub triangles-same : edgeMesh n above ≡ edgeMesh n other
+  pub triangles-same : (m : Mode) → edgeMesh m n above ≡ edgeMesh m n other
   unfolding edgeMesh joinBox cubeTriangles
-  triangles-same =
+  triangles-same m =
       join-cong (n .nz - 1) _ _
       (λ z hz. join-cong (n .ny - 1) _ _ (λ y hy. join-cong (n .nx - 1) _ _ (λ x hx.
-      ap (λ k. map (rename (gridEdge n x y z)) (triangles k)) (case-same x y z hx hy hz))))
+      ap (λ k. map (rename (gridEdge m n x y z)) (m .triangles k)) (case-same x y z hx hy hz))))
 
-  pub mesh-same : mesh n above ≡ mesh n other
+  pub mesh-same : (m : Mode) → mesh m n above ≡ mesh m n other
   unfolding mesh
-  mesh-same = ap₂ (λ f ts. map (rename f) ts) (number-same axes) triangles-same
+  mesh-same m = ap₂ (λ f ts. map (rename f) ts) (number-same (m .kind)) (triangles-same m)

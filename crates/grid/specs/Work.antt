@@ -5,7 +5,7 @@ use mathlib.Core.Bool.{Bool, true}
 use Prim.Native.Nat.{ℕ, _^_, _≤_, _<_}
 use lib.ListN.{length, getD}
 use Rattle.grid.specs.Limits.{leastSide, mostSide}
-use Rattle.grid.specs.Grid.{Size, axes, edgeCount, crossed}
+use Rattle.grid.specs.Grid.{Size, Kind, edgeCount, crossed}
 use Rattle.grid.specs.Point.{number}
 
 abbrev pub size : ℕ → ℕ → ℕ → Size
@@ -21,9 +21,9 @@ pub record SidesFit (nx ny nz : ℕ) : Type 0 where
   pub most-z : nz ≤ mostSide
 
 -- the work room holds, at each crossed edge, the number of its point
-pub record Numbered (n : Size) (above : ℕ → Bool) (work : List ℕ) : Type 0 where
-  pub whole : length work ≡ edgeCount axes n
-  pub ranks : (e : ℕ) → e < edgeCount axes n → crossed axes n above e ≡ true → getD work e 0 ≡ number axes n above e
+pub record Numbered (k : Kind) (n : Size) (above : ℕ → Bool) (work : List ℕ) : Type 0 where
+  pub whole : length work ≡ edgeCount k n
+  pub ranks : (e : ℕ) → e < edgeCount k n → crossed k n above e ≡ true → getD work e 0 ≡ number k n above e
 
 -- what a grid edge is called: where names are lent the name at its number, else its number
 unfoldable pub nameOf : List ℕ → ℕ → ℕ

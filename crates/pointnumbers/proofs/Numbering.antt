@@ -88,5 +88,5 @@ module _ (sides : Sides) (masks : List ℕ) where
   all-counted n work so = so .counted ∙ sym (length-keep (edgeCount axes (sizeOf sides)) (cut sides masks))
 
   pub all-numbered : (n : ℕ) (work : List ℕ) → NumberedTo sides masks (edgeCount axes (sizeOf sides)) n work
-      → Numbered (sizeOf sides) (wordsAbove sides masks) work
+      → Numbered axes (sizeOf sides) (wordsAbove sides masks) work
   all-numbered n work so = record { whole = so .whole; ranks = so .ranks }

@@ -19,7 +19,7 @@ pub fn number(nx: usize, ny: usize, nz: usize, masks: &[u64], work: &mut [u32]) 
     requires { ⌜ Agreeing nx (ny * nz) (now masks) ⌝ }
     requires { ⌜ length (now work) ≡ edgeCount axes (size nx ny nz) ⌝ }
     ensures counted { λ r. ⌜ r ≡ length (pointEdges axes (size nx ny nz) (maskAbove nx (now (masks .entry)))) ⌝ }
-    ensures numbered { λ r. ⌜ Numbered (size nx ny nz) (maskAbove nx (now (masks .entry))) (now (work .exit)) ⌝ }
+    ensures numbered { λ r. ⌜ Numbered axes (size nx ny nz) (maskAbove nx (now (masks .entry))) (now (work .exit)) ⌝ }
 {
     let sides = Sides {
         nx,

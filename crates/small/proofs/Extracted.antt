@@ -10,10 +10,12 @@ use Rattle.laws.proofs.Tests.{both}
 use Rattle.laws.proofs.Sides.{length-corners}
 use Rattle.grid.specs.Limits.{mostRounds, mostWeight}
 use Rattle.grid.specs.Grid.{axes, mark}
+use Rattle.grid.specs.Mode.{cubes}
 use Rattle.grid.specs.Work.{size}
 use Rattle.extract.specs.Extraction.{Rooms, Outcome, pointList, triangleList, granted}
 use Rattle.extract.specs.Promise.{Extracts}
 use Rattle.closed.specs.Left.{meshLeft, edgesLeft}
+use Rattle.closed.proofs.Cubes.{cubes-owed}
 use Rattle.closed.proofs.Granted.{Granted, left-granted}
 use Rattle.closed.proofs.Passes.{extract-passes}
 use Rattle.gridtext.specs.declared.Parsed.{Parsed}
@@ -30,11 +32,11 @@ module _ (p : Parsed) (samples : List ℕ) (small : SmallGrid p samples) where
       let b = both (leb (p .rounds) mostRounds) (leb (p .weight) mostWeight) (passed (headIn p) (small .0) .2) in
       (leb-true (p .rounds) mostRounds (b .0), leb-true (p .weight) mostWeight (b .1))
 
-  module _ (before : Rooms) (after : Outcome) (hold : RoomsHold (length samples) before) (extracts : Extracts (p .nx) (p .ny) (p .nz) (p .grey) samples before after) where
+  module _ (before : Rooms) (after : Outcome) (hold : RoomsHold (length samples) before) (extracts : Extracts cubes (p .nx) (p .ny) (p .nz) (p .grey) samples before after) where
     abbrev points : List ℕ
-    points = pointList (size (p .nx) (p .ny) (p .nz)) (p .grey) samples before
+    points = pointList cubes (size (p .nx) (p .ny) (p .nz)) (p .grey) samples before
 
-    left-is : after ≡ granted (size (p .nx) (p .ny) (p .nz)) (p .grey) samples before
+    left-is : after ≡ granted cubes (size (p .nx) (p .ny) (p .nz)) (p .grey) samples before
     left-is =
         let c = passed (headIn p) (small .0) in
         extracts ∙ extract-granted (p .nx) (p .ny) (p .nz) (p .grey) samples before (c .0) (c .1) (small .1) hold
@@ -43,15 +45,15 @@ module _ (p : Parsed) (samples : List ℕ) (small : SmallGrid p samples) where
     unfolding granted
     none = ap (λ o. o .number) left-is
 
-    left : Granted (p .nx) (p .ny) (p .nz) (p .grey) samples before after
-    left = left-granted (p .nx) (p .ny) (p .nz) (p .grey) samples before after extracts none
+    left : Granted cubes (p .nx) (p .ny) (p .nz) (p .grey) samples before after
+    left = left-granted cubes (p .nx) (p .ny) (p .nz) (p .grey) samples before after extracts none
 
     few-left : length points ≤ mostSmallPoints
     few-left =
         let c = passed (headIn p) (small .0) in
         points-few (p .nx) (p .ny) (p .nz) (p .grey) samples before (c .0) (c .1) (small .1) hold
 
-    few-made : length (triangleList (size (p .nx) (p .ny) (p .nz)) (p .grey) samples before) ≤ mostSmallTriangles
+    few-made : length (triangleList cubes (size (p .nx) (p .ny) (p .nz)) (p .grey) samples before) ≤ mostSmallTriangles
     few-made =
         let c = passed (headIn p) (small .0) in
         triangles-few (p .nx) (p .ny) (p .nz) (p .grey) samples before (c .0) (c .1) (small .1) hold
@@ -74,10 +76,10 @@ module _ (p : Parsed) (samples : List ℕ) (small : SmallGrid p samples) where
     small-mesh output room =
         let n = points-counted in
         record {
-          passes = extract-passes (p .nx) (p .ny) (p .nz) (p .grey) samples before after extracts none;
+          passes = extract-passes cubes cubes-owed (p .nx) (p .ny) (p .nz) (p .grey) samples before after extracts none;
           edged = n .1 ∙ sym (n .2);
           few-points = omega (arith, n .0, n .2);
-          few-triangles = omega (arith, ap length (left .triangles-are), length-corners (triangleList (size (p .nx) (p .ny) (p .nz)) (p .grey) samples before), few-made);
+          few-triangles = omega (arith, ap length (left .triangles-are), length-corners (triangleList cubes (size (p .nx) (p .ny) (p .nz)) (p .grey) samples before), few-made);
           room = room;
         }
 

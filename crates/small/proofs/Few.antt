@@ -14,6 +14,7 @@ use Rattle.cube.specs.Answer.{mostCaseTriangles, triangles, count}
 use Rattle.cube.proofs.Corners.{case-small}
 use Rattle.grid.specs.Grid.{Size, axes, sampleCount, edgeCount, crossed}
 use Rattle.grid.specs.Point.{pointEdges, number}
+use Rattle.grid.specs.Mode.{cubes}
 use Rattle.grid.specs.Mesh.{cornerSite, gridEdge, caseAt, cubeTriangles, edgeMesh, mesh}
 use Rattle.cuberows.proofs.Cases.{count-most}
 
@@ -22,21 +23,21 @@ module _ (n : Size) (above : ℕ → Bool) where
   unfolding pointEdges
   few-points = rw (length-keep (edgeCount axes n) (crossed axes n above)) (count-le (edgeCount axes n) (crossed axes n above))
 
-  cube-few : (x y z : ℕ) → length (cubeTriangles n above x y z) ≤ mostCaseTriangles
+  cube-few : (x y z : ℕ) → length (cubeTriangles cubes n above x y z) ≤ mostCaseTriangles
   unfolding cubeTriangles caseAt count
   cube-few x y z =
-      rw (length-map (triangles (caseAt n above x y z)) (rename (gridEdge n x y z)))
+      rw (length-map (triangles (caseAt n above x y z)) (rename (gridEdge cubes n x y z)))
       (count-most (caseAt n above x y z) (case-small (λ c. above (cornerSite n x y z c))))
 
-  pub few-triangles : length (mesh n above) ≤ mostCaseTriangles * sampleCount n
+  pub few-triangles : length (mesh cubes n above) ≤ mostCaseTriangles * sampleCount n
   unfolding mesh edgeMesh
   few-triangles =
-      let f : ℕ → ℕ → ℕ → ℕ = λ x y z. length (cubeTriangles n above x y z) in
+      let f : ℕ → ℕ → ℕ → ℕ = λ x y z. length (cubeTriangles cubes n above x y z) in
       let cx = n .nx - 1 in
       let cy = n .ny - 1 in
       let cz = n .nz - 1 in
-      let long : length (mesh n above) ≡ sumTo cz (λ z. sumTo cy (λ y. sumTo cx (λ x. f x y z))) =
-      length-map (edgeMesh n above) (rename (number axes n above)) ∙ length-box cx cy cz (cubeTriangles n above) in
+      let long : length (mesh cubes n above) ≡ sumTo cz (λ z. sumTo cy (λ y. sumTo cx (λ x. f x y z))) =
+      length-map (edgeMesh cubes n above) (rename (number axes n above)) ∙ length-box cx cy cz (cubeTriangles cubes n above) in
       let most : sumTo cz (λ z. sumTo cy (λ y. sumTo cx (λ x. f x y z))) ≤ mostCaseTriangles * cx * cy * cz =
       sum-most (mostCaseTriangles * cx * cy) cz _ (λ z lz. sum-most (mostCaseTriangles * cx) cy _ (λ y ly. sum-most mostCaseTriangles cx _ (λ x lx. cube-few x y z))) in
       let same : mostCaseTriangles * cx * cy * cz ≡ mostCaseTriangles * (cx * (cy * cz)) = rw (mul-assoc, mul-assoc) in

@@ -9,6 +9,7 @@ use borrow.Author.Tests.{eq-eqb, le-ltb}
 use Rattle.grid.specs.Limits.{mostPoints, mostTriangles, mostSmall}
 use Rattle.grid.specs.Sides.{sidesFit}
 use Rattle.grid.specs.Grid.{Size, axes, isAboveGrey, sampleCount, edgeCount}
+use Rattle.grid.specs.Mode.{cubes}
 use Rattle.grid.specs.Work.{size}
 use Rattle.extract.specs.Extraction.{Rooms, pointList, triangleList, pointRoom, triangleRoom, granted, measured, extracted}
 use Rattle.printing.specs.Sizes.{mostSmallPoints, mostSmallTriangles}
@@ -26,19 +27,19 @@ module _ (nx ny nz grey : ℕ) (samples : List ℕ) (r : Rooms) (fit : sidesFit 
   abbrev n : Size
   n = size nx ny nz
 
-  pub points-few : length (pointList n grey samples r) ≤ mostSmallPoints
+  pub points-few : length (pointList cubes n grey samples r) ≤ mostSmallPoints
   points-few = omega (arith, few-points n (isAboveGrey grey samples))
 
-  pub triangles-few : length (triangleList n grey samples r) ≤ mostSmallTriangles
+  pub triangles-few : length (triangleList cubes n grey samples r) ≤ mostSmallTriangles
   triangles-few = omega (arith, few-triangles n (isAboveGrey grey samples))
 
-  pub extract-granted : extracted nx ny nz grey samples r ≡ granted n grey samples r
+  pub extract-granted : extracted cubes nx ny nz grey samples r ≡ granted cubes n grey samples r
   unfolding extracted measured
   extract-granted =
       rw (
         fit,
         eq-eqb (length samples) (sampleCount n) all,
         eq-eqb (length (r .work)) (edgeCount axes n) (hold .work ∙ ap (λ k. 3 * k) all),
-        le-ltb (min mostPoints (pointRoom n grey samples r)) (length (pointList n grey samples r)) (omega (arith, points-few, hold .points, hold .edges, hold .marks)),
-        le-ltb (min mostTriangles (triangleRoom n grey samples r)) (length (triangleList n grey samples r)) (omega (arith, triangles-few, hold .triangles)),
+        le-ltb (min mostPoints (pointRoom cubes n grey samples r)) (length (pointList cubes n grey samples r)) (omega (arith, points-few, hold .points, hold .edges, hold .marks)),
+        le-ltb (min mostTriangles (triangleRoom cubes n grey samples r)) (length (triangleList cubes n grey samples r)) (omega (arith, triangles-few, hold .triangles)),
       )

@@ -7,6 +7,7 @@ use Rattle.laws.specs.Mesh.{flat}
 use Rattle.grid.specs.Limits.{mostSmall}
 use Rattle.grid.specs.Grid.{axes, isAboveGrey, mark}
 use Rattle.grid.specs.Point.{pointEdges, place}
+use Rattle.grid.specs.Mode.{cubes}
 use Rattle.grid.specs.Mesh.{mesh}
 use Rattle.closed.specs.Left.{Mesh}
 use Rattle.writing.specs.Writing.{refusalText}
@@ -25,7 +26,7 @@ module _ (h : Head) (samples : List ℕ) where
   extractedMesh =
       record {
         points = flatMap (place axes (headSize h) (h .grey) samples) gridEdges;
-        triangles = flat (mesh (headSize h) (isAboveGrey (h .grey) samples));
+        triangles = flat (mesh cubes (headSize h) (isAboveGrey (h .grey) samples));
         marks = map (mark axes (headSize h)) gridEdges;
       }
 

@@ -11,6 +11,7 @@ use Rattle.laws.specs.Range.{allTo}
 use Rattle.laws.proofs.Tests.{all-at}
 use Rattle.cube.specs.Cube.{cubeEdgeCount, cornerX, cornerY, cornerZ, lowCorner, cubeEdges}
 use Rattle.grid.specs.Grid.{Size, site}
+use Rattle.grid.specs.Mode.{cubes}
 use Rattle.grid.specs.Mesh.{cornerSite, gridEdge}
 use Rattle.grid.proofs.Sites.{site-add}
 use Rattle.triangles.specs.Names.{edgeOffset}
@@ -28,6 +29,6 @@ offset-at nx ny e h =
 
 module _ (n : Size) (x y z : ℕ) where
   -- a cube edge's grid edge, counted on from the first grid edge of the cube's first corner
-  pub edge-place : (e : ℕ) → 3 * (x + n .nx * (y + n .ny * z)) + edgeOffset (n .nx) (n .ny) e ≡ gridEdge n x y z e
+  pub edge-place : (e : ℕ) → 3 * (x + n .nx * (y + n .ny * z)) + edgeOffset (n .nx) (n .ny) e ≡ gridEdge cubes n x y z e
   unfolding gridEdge cornerSite edgeOffset site
   edge-place e = let c = lowCorner e in omega (arith, site-add n x y z (cornerX c) (cornerY c) (cornerZ c))

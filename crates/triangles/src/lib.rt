@@ -10,6 +10,7 @@ ghost use Rattle.cube.specs.Cube.{cubeEdges};
 ghost use Rattle.cube.specs.Promise.{Rows, Counts};
 ghost use Rattle.grid.specs.Limits.{mostSide};
 ghost use Rattle.grid.specs.Grid.{axes, edgeCount};
+ghost use Rattle.grid.specs.Mode.{cubes};
 ghost use Rattle.grid.specs.Mesh.{edgeMesh};
 ghost use Rattle.grid.specs.Work.{size, SidesFit, nameOf, Nameable, NamesFit};
 ghost use Rattle.masks.specs.Masks.{rowWords, maskAbove, Agreeing};
@@ -166,9 +167,9 @@ pub fn write(nx: usize, ny: usize, nz: usize, masks: &[u64], names: &[u32], tria
     requires { ⌜ rowWords nx * (ny * nz) ≤ length (now masks) ⌝ }
     requires { ⌜ Agreeing nx (ny * nz) (now masks) ⌝ }
     requires { ⌜ NamesFit (edgeCount axes (size nx ny nz)) (now names) ⌝ }
-    requires { ⌜ 3 * length (edgeMesh (size nx ny nz) (maskAbove nx (now masks))) ≤ length (now triangles) ⌝ }
+    requires { ⌜ 3 * length (edgeMesh cubes (size nx ny nz) (maskAbove nx (now masks))) ≤ length (now triangles) ⌝ }
     ensures { λ _.
-        let corners = flat (edgeMesh (size nx ny nz) (maskAbove nx (now (masks .entry)))) in
+        let corners = flat (edgeMesh cubes (size nx ny nz) (maskAbove nx (now (masks .entry)))) in
         ⌜ now (triangles .exit) ≡ laid (map (nameOf (now (names .entry))) corners) (now (triangles .entry)) ⌝ }
 {
     let table = cube::rows();

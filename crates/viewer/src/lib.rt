@@ -1,5 +1,6 @@
 // The C functions that a viewer links. Each is a thin call of the one below it.
 ghost use Rattle.cube.specs.Promise.{Counted, EdgeRead};
+ghost use Rattle.grid.specs.Mode.{cubes};
 ghost use Rattle.extract.specs.Promise.{rooms, left, Extracts};
 ghost use Rattle.smooth.specs.Promise.{Smooths};
 ghost use Rattle.show.specs.Promise.{Shows};
@@ -51,7 +52,7 @@ pub extern "C" fn tholbrina_extract(
     ensures { λ r.
         let before = rooms (now (points .entry)) (now (edges .entry)) (now (marks .entry)) (now (triangles .entry)) (now (work .entry)) in
         let after = rooms (now (points .exit)) (now (edges .exit)) (now (marks .exit)) (now (triangles .exit)) (now (work .exit)) in
-        ⌜ Extracts nx ny nz grey (now (samples .entry)) before (left r (now («point_count» .exit)) (now («triangle_count» .exit)) after) ⌝ }
+        ⌜ Extracts cubes nx ny nz grey (now (samples .entry)) before (left r (now («point_count» .exit)) (now («triangle_count» .exit)) after) ⌝ }
 {
     let done = extract::extract(
         nx,

@@ -4,6 +4,7 @@ use mathlib.Core.Bool.{true}
 use native.Mathlib.Omega.{arith}
 use borrow.Author.Tests.{not-true, not-false}
 use Rattle.grid.specs.Sides.{sidesFit}
+use Rattle.grid.specs.Mode.{cubes}
 use Rattle.grid.proofs.Sides.{sides-within, rows-most, samples-most}
 use Rattle.extract.specs.Extraction.{Rooms}
 use Rattle.extract.specs.Promise.{rooms}
@@ -37,7 +38,7 @@ returns c =
     let s = begun f in
     let a = s .args in
     rw (c .refused .ensures .0, c .refused .ensures .1, c .refused .ensures .2)
-    (refused-sides (a .nx) (a .ny) (a .nz) (a .grey) (a .samples .now) (lent s) (sym (f .sides-fit .ensures) ∙ not-true _ (c .before .if1 .taken)))
+    (refused-sides cubes (a .nx) (a .ny) (a .nz) (a .grey) (a .samples .now) (lent s) (sym (f .sides-fit .ensures) ∙ not-true _ (c .before .if1 .taken)))
 
 mul-count : tie.Need-mul-count
 mul-count c =
@@ -58,7 +59,7 @@ returns-2 c =
     let s = begun (e .before) in
     let a = s .args in
     rw (c .refused2 .ensures .0, c .refused2 .ensures .1, c .refused2 .ensures .2)
-    (refused-samples (a .nx) (a .ny) (a .nz) (a .grey) (a .samples .now) (lent s) (fit e) (c .before .if2 .taken))
+    (refused-samples cubes (a .nx) (a .ny) (a .nz) (a .grey) (a .samples .now) (lent s) (fit e) (c .before .if2 .taken))
 
 mul-if3 : tie.Need-mul-if3
 mul-if3 c = search needs
@@ -72,7 +73,7 @@ returns-3 c =
     let s = begun (e .before) in
     let a = s .args in
     rw (c .refused3 .ensures .0, c .refused3 .ensures .1, c .refused3 .ensures .2)
-    (refused-work (a .nx) (a .ny) (a .nz) (a .grey) (a .samples .now) (lent s) (fit e) (c .before .before .if2 .left) (c .before .if3 .taken))
+    (refused-work cubes (a .nx) (a .ny) (a .nz) (a .grey) (a .samples .now) (lent s) (fit e) (c .before .before .if2 .left) (c .before .if3 .taken))
 
 measured-requires : tie.Need-measured-requires
 measured-requires c κs =
@@ -104,7 +105,7 @@ returns-4 c =
     let s = begun (e .before) in
     let a = s .args in
     m .measured .ensures
-    ∙ past-lengths (a .nx) (a .ny) (a .nz) (a .grey) (a .samples .now) (lent s) (fit e) (l .before .if2 .left) (l .if3 .left)
+    ∙ past-lengths cubes (a .nx) (a .ny) (a .nz) (a .grey) (a .samples .now) (lent s) (fit e) (l .before .if2 .left) (l .if3 .left)
 
 pub extract-spec : {M : Type 1} → statement M
 extract-spec =

@@ -8,8 +8,10 @@ use lib.ListN.{length, replicate, length-replicate}
 use Rattle.laws.specs.Room.{laid}
 use Rattle.grid.specs.Limits.{mostPoints}
 use Rattle.grid.specs.Grid.{isAboveGrey}
+use Rattle.grid.specs.Mode.{cubes}
 use Rattle.grid.specs.Work.{size}
 use Rattle.grid.proofs.Sides.{rows-most}
+use Rattle.grid.proofs.Edges.{cubes-sides-cut}
 use Rattle.grid.proofs.Named.{mesh-named}
 use Rattle.masks.specs.Masks.{rowWords, mostWords, maskAbove, Agreeing}
 use Rattle.masks.proofs.Above.{told-agrees}
@@ -263,7 +265,7 @@ returns-3 c =
     (place .place .ensures .1 .1)
     (write .write .ensures
     ∙ ap (λ xs. laid xs (a .triangles .now))
-    (mesh-named (size (a .nx) (a .ny) (a .nz)) (maskAbove (a .nx) (f .fill .last .1 .1 .1 .1 .0)) (n .number .last .1 .1 .1 .1 .0) (n .number .ensures .1)))
+    (mesh-named cubes cubes-sides-cut (size (a .nx) (a .ny) (a .nz)) (maskAbove (a .nx) (f .fill .last .1 .1 .1 .1 .0)) (n .number .last .1 .1 .1 .1 .0) (n .number .ensures .1)))
     (clear .clear .ensures ∙ ap (λ k. replicate k 0) (work-kept n))
 
 pub measured-spec : {M : Type 1} → statement M
