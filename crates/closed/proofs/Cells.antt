@@ -3,16 +3,14 @@ use mathlib.Core.Path.{_≡_, refl, ap, ap₂, sym, _∙_}
 use mathlib.Core.List.{List, [], _∷_, _++_, map, flatMap}
 use mathlib.Core.Bool.{Bool}
 use Prim.Native.Nat.{ℕ, _+_, _/_, _%_, _^_, _≤_}
-use mathlib.Core.Logic.{_⊎_, inl, inr}
 use native.Mathlib.Decide.{decLe}
 use native.Mathlib.Omega.{arith}
 use Rattle.laws.specs.Sum.{sumOf, All}
-use Rattle.laws.specs.Mesh.{Arrow, arrow, rename, total}
+use Rattle.laws.specs.Mesh.{Arrow, arrow, total}
 use Rattle.laws.proofs.Sums.{sum-map, sum-same}
 use Rattle.laws.proofs.Lists.{map-cong}
 use Rattle.laws.proofs.Sides.{total-rename}
-use Rattle.cube.specs.Cube.{cornerX, cornerY, cornerZ}
-use Rattle.cube.specs.Face.{Step, step, cuts, goRound, wayRound, faceSegments, segmentsOf}
+use Rattle.cube.specs.Face.{step, cuts, goRound, wayRound, faceSegments, segmentsOf}
 use Rattle.cube.proofs.Way.{byNamed, arrowNamed, cuts-renamed, round-mapped, round-renamed}
 use Rattle.grid.specs.Grid.{Size, site, along}
 use Rattle.grid.specs.Mode.{Mode, high}
@@ -45,7 +43,8 @@ module _ (above : ℕ → Bool) (edge : ℕ → ℕ → ℕ) (name : ℕ → ℕ
       ∙ sum-same (λ r. total w (faceSegments above named r)) (λ r. total (λ i j. w (name i) (name j)) (faceSegments above edge r)) (ring-renamed w) rs
       ∙ sym (ring-by-ring above edge (λ i j. w (name i) (name j)) rs)
 
--- an edge at a low side has the two corners for its ends, in the one order or the other; so its lower corner is at that side, and its upper
+-- An edge at a low side has the two corners for its ends, in the one order or the other: what holds of them both ways holds of its lower and its upper corner. So both are
+-- at that side.
 module _ (m : Mode) (p : Pattern) (axis : ℕ) (s : Arrow) (e : LowEdge m p axis s) where
   abbrev low : ℕ
   low = m .low (p .edge (s .from) (s .to))
@@ -53,26 +52,18 @@ module _ (m : Mode) (p : Pattern) (axis : ℕ) (s : Arrow) (e : LowEdge m p axis
   abbrev top : ℕ
   top = high m (p .edge (s .from) (s .to))
 
-  pub two-ends : ((low ≡ s .from) × (top ≡ s .to)) ⊎ ((low ≡ s .to) × (top ≡ s .from))
-  two-ends = go (decLe (s .from) (s .to))
+  pub by-ends : (P : ℕ → ℕ → Type 0) → P (s .from) (s .to) → P (s .to) (s .from) → P low top
+  by-ends P there back = go (decLe (s .from) (s .to))
     where
-      go : Dec (s .from ≤ s .to) → ((low ≡ s .from) × (top ≡ s .to)) ⊎ ((low ≡ s .to) × (top ≡ s .from))
-      go (yes l) = inl (omega (arith, e .leaves), omega (arith, e .comes))
-      go (no l) = inr (omega (arith, e .leaves), omega (arith, e .comes))
+      go : Dec (s .from ≤ s .to) → P low top
+      go (yes l) = let a : low ≡ s .from = omega (arith, e .leaves) in let b : top ≡ s .to = omega (arith, e .comes) in rw (b, a) there
+      go (no l) = let a : low ≡ s .to = omega (arith, e .leaves) in let b : top ≡ s .from = omega (arith, e .comes) in rw (b, a) back
 
   pub low-there : along low axis ≡ 0
-  low-there = go two-ends
-    where
-      go : ((low ≡ s .from) × (top ≡ s .to)) ⊎ ((low ≡ s .to) × (top ≡ s .from)) → along low axis ≡ 0
-      go (inl t) = rw (t .0) (e .from-low)
-      go (inr t) = rw (t .0) (e .to-low)
+  low-there = by-ends (λ a b. along a axis ≡ 0) (e .from-low) (e .to-low)
 
   pub top-there : along top axis ≡ 0
-  top-there = go two-ends
-    where
-      go : ((low ≡ s .from) × (top ≡ s .to)) ⊎ ((low ≡ s .to) × (top ≡ s .from)) → along top axis ≡ 0
-      go (inl t) = rw (t .1) (e .to-low)
-      go (inr t) = rw (t .1) (e .from-low)
+  top-there = by-ends (λ a b. along b axis ≡ 0) (e .to-low) (e .from-low)
 
 same-site : (n : Size) {x y z a b c : ℕ} → x ≡ a → y ≡ b → z ≡ c → site n x y z ≡ site n a b c
 same-site n p q r i = site n (p i) (q i) (r i)
@@ -114,7 +105,7 @@ module _ (m : Mode) (owed : Owed m) (n : Size) (above : ℕ → Bool) where
   module _ (axis x y z x′ y′ z′ : ℕ) (shared : (c : ℕ) → along c axis ≡ 0 → cornerSite n x y z (c + 2 ^ axis) ≡ cornerSite n x′ y′ z′ c) where
     same-edge : (s : Arrow) → LowEdge m p axis s → edge x y z (s .from + 2 ^ axis) (s .to + 2 ^ axis) ≡ edge x′ y′ z′ (s .from) (s .to)
     unfolding gridEdge
-    same-edge s e = rw (e .next-low, e .next-code, shared (m .low (p .edge (s .from) (s .to))) (low-there m p axis s e))
+    same-edge s e = rw (e .before-low, e .before-code, shared (m .low (p .edge (s .from) (s .to))) (low-there m p axis s e))
 
     same-step : (s : Arrow) → LowEdge m p axis s
         → step (corner x y z) (edge x y z) (s .from + 2 ^ axis) (s .to + 2 ^ axis) ≡ step (corner x′ y′ z′) (edge x′ y′ z′) (s .from) (s .to)

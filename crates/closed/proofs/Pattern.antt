@@ -124,8 +124,8 @@ low-edge m p axis s h =
       from-low = eqb-true _ _ (d .0);
       to-low = eqb-true _ _ (f .0);
       flat = eqb-true _ _ (g .0);
-      next-low = eqb-true _ _ (i .0);
-      next-code = eqb-true _ _ (i .1);
+      before-low = eqb-true _ _ (i .0);
+      before-code = eqb-true _ _ (i .1);
     }
 
 pub sides-lie : (m : Mode) (p : Pattern) (axis : ℕ) (rs : List Ring) → sidesLie m p axis rs ≡ true → All (λ r. All (LowEdge m p axis) (goRound arrow r)) rs

@@ -1,7 +1,6 @@
 -- The segments of a grid's outer faces have both their ends there, whichever mode cuts its cubes.
-use mathlib.Core.Path.{_≡_, ap₂, _∙_, subst}
+use mathlib.Core.Path.{_≡_, subst}
 use mathlib.Core.List.{List}
-use mathlib.Core.Logic.{_⊎_, inl, inr}
 use mathlib.Core.Bool.{Bool, true, false, cond, xor}
 use Prim.Native.Nat.{ℕ, _+_, _-_, _<_, _≤_}
 use native.Mathlib.Omega.{arith}
@@ -21,7 +20,7 @@ use Rattle.grid.proofs.Edges.{grid-edge-crossed, grid-edge-small, grid-edge-on-
 use Rattle.closed.specs.Pattern.{Ring, Pattern, LowEdge, Owed}
 use Rattle.closed.proofs.Law.{OuterLaw}
 use Rattle.closed.proofs.Numbered.{OnRim}
-use Rattle.closed.proofs.Cells.{corner, across, two-ends, low-there, top-there}
+use Rattle.closed.proofs.Cells.{corner, across, by-ends, low-there, top-there}
 
 xor-comm : (a b : Bool) → xor a b ≡ true → xor b a ≡ true
 unfolding xor
@@ -50,12 +49,7 @@ module _ (m : Mode) (owed : Owed m) (n : Size) (above : ℕ → Bool) where
 
     -- a crossed edge of that side is a crossed edge of the grid, on the outer face
     ends-differ : (s : Arrow) → LowEdge m p axis s → xor (up (s .from)) (up (s .to)) ≡ true → xor (up (m .low (between s))) (up (high m (between s))) ≡ true
-    ends-differ s e h = go (two-ends m p axis s e)
-      where
-        go : ((m .low (between s) ≡ s .from) × (high m (between s) ≡ s .to)) ⊎ ((m .low (between s) ≡ s .to) × (high m (between s) ≡ s .from))
-            → xor (up (m .low (between s))) (up (high m (between s))) ≡ true
-        go (inl t) = ap₂ (λ a b. xor (up a) (up b)) (t .0) (t .1) ∙ h
-        go (inr t) = ap₂ (λ a b. xor (up a) (up b)) (t .0) (t .1) ∙ xor-comm (up (s .from)) (up (s .to)) h
+    ends-differ s e h = by-ends m p axis s e (λ a b. xor (up a) (up b) ≡ true) h (xor-comm (up (s .from)) (up (s .to)) h)
 
     edge-on-rim : (s : Arrow) → LowEdge m p axis s → xor (up (s .from)) (up (s .to)) ≡ true → On axis last (gridEdge m n x y z (between s))
     edge-on-rim s e h =

@@ -1,6 +1,6 @@
 -- What demand 3 says of a surface, in its words: how often triangles run from one point to another, which points lie on one outer face, and the
 -- balance; of which mesh it is said: one that was extracted here, smoothed here or not; when a shell is closed; when a list of shells is right; a claim
--- that is not made; and the slit that the balance finds. Pattern is for the proof: the table of faces that the law of cells reads.
+-- that is not made; and the slit that the balance finds. Pattern is what a mode owes so that all this holds of its meshes.
 pub mod Runs
 pub mod Left
 pub mod Shell

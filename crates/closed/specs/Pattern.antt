@@ -52,17 +52,20 @@ abbrev pub TurnsRound : (ℕ → ℕ → ℕ) → Ring → Type 0
 TurnsRound edge r = (above : ℕ → Bool) (w : ℕ → ℕ → ℕ)
     → total w (faceSegments above edge (back r)) ≡ total (λ i j. w j i) (faceSegments above edge r)
 
--- Two neighbouring corners of a face at the low side across an axis. The edge between them goes from the one to the other and lies in that side; and the same edge, seen from
--- the cube before this one, is that cube's edge between the same corners further on.
-pub record LowEdge (m : Mode) (p : Pattern) (axis : ℕ) (s : Arrow) : Type 0 where
-  pub edge : CubeEdge m (p .edge (s .from) (s .to))
-  pub leaves : m .low (p .edge (s .from) (s .to)) ≡ min (s .from) (s .to)
-  pub comes : high m (p .edge (s .from) (s .to)) ≡ max (s .from) (s .to)
-  pub from-low : along (s .from) axis ≡ 0
-  pub to-low : along (s .to) axis ≡ 0
-  pub flat : along (directionOf m (p .edge (s .from) (s .to))) axis ≡ 0
-  pub next-low : m .low (p .edge (s .from + 2 ^ axis) (s .to + 2 ^ axis)) ≡ m .low (p .edge (s .from) (s .to)) + 2 ^ axis
-  pub next-code : m .code (p .edge (s .from + 2 ^ axis) (s .to + 2 ^ axis)) ≡ m .code (p .edge (s .from) (s .to))
+-- Two neighbouring corners of a face at the low side across an axis, the edge e between them, and the edge between the same corners of the cube before, for which they stand
+-- further on: e goes from the one corner to the other and lies in that side, and both are the same edge of the grid.
+pub record InLowSide (m : Mode) (axis : ℕ) (corners : Arrow) (e before : ℕ) : Type 0 where
+  pub edge : CubeEdge m e
+  pub leaves : m .low e ≡ min (corners .from) (corners .to)
+  pub comes : high m e ≡ max (corners .from) (corners .to)
+  pub from-low : along (corners .from) axis ≡ 0
+  pub to-low : along (corners .to) axis ≡ 0
+  pub flat : along (directionOf m e) axis ≡ 0
+  pub before-low : m .low before ≡ m .low e + 2 ^ axis
+  pub before-code : m .code before ≡ m .code e
+
+abbrev pub LowEdge : Mode → Pattern → ℕ → Arrow → Type 0
+LowEdge m p axis s = InLowSide m axis s (p .edge (s .from) (s .to)) (p .edge (s .from + 2 ^ axis) (s .to + 2 ^ axis))
 
 pub record Owed (m : Mode) : Type 0 where
   pub pattern : Pattern

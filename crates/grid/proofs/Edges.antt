@@ -7,17 +7,15 @@ use native.Mathlib.Omega.{arith}
 use lib.Dec.{eqb, ltb}
 use borrow.Author.Tests.{eqb-true, eq-eqb, ltb-true, lt-ltb}
 use Rattle.laws.specs.Range.{allTo}
-use Rattle.laws.specs.Sum.{All}
 use Rattle.laws.specs.Mesh.{Arrow, sides}
 use Rattle.laws.proofs.Tests.{both, all-at}
 use Rattle.laws.proofs.Sums.{all-weaken}
-use Rattle.cube.specs.Cube.{cubeEdgeCount, cornerX, cornerY, cornerZ, isAbove, axisOf, lowCorner, highCorner, edgeBetween, crossed as cubeCrossed}
+use Rattle.cube.specs.Cube.{cubeEdgeCount, cornerX, cornerY, cornerZ, edgeBetween, crossed as cubeCrossed}
 use Rattle.cube.specs.Answer.{triangles}
 use Rattle.cube.proofs.Cases.{CrossedEdge, CrossedSide, edge-between, sides-crossed}
-use Rattle.cube.proofs.Corners.{corner-of-case}
 use Rattle.grid.specs.Grid.{Size, sampleCount, edgeCount, site, coordinate, side, along, otherEnd, fitsAlong, isThere, isOutermost, crossedFrom, crossed, onFaceFrom, onFace}
 use Rattle.grid.specs.Mode.{Mode, cubes, directionOf, high, CubeEdge, crossedIn, CutEdge, CutSide, SidesCut}
-use Rattle.grid.specs.Mesh.{cornerSite, caseAt, gridEdge}
+use Rattle.grid.specs.Mesh.{cornerSite, gridEdge}
 use Rattle.grid.proofs.Sites.{choose, site-add, site-small, coordinate-site}
 use Rattle.grid.proofs.Crossings.{edge-sample, edge-code, edge-small, crossed-at, on-face-at}
 

@@ -10,7 +10,7 @@ use lib.Dec.{eqb, ltb}
 use lib.ListN.{getD}
 use borrow.Author.Tests.{eqb-true, lt-ltb}
 use Rattle.laws.specs.Range.{one-if, allTo}
-use Rattle.laws.specs.Mesh.{Triangle, rename}
+use Rattle.laws.specs.Mesh.{rename}
 use Rattle.laws.proofs.Tests.{all-at}
 use Rattle.cube.specs.Cube.{lowCorner, axisOf}
 use Rattle.cube.specs.Answer.{triangles}
