@@ -33,6 +33,10 @@ module _ (k : Kind) (n : Size) (s a : ℕ) (h : a < k .many) where
   unfolding onFace
   on-face-at axis last = ap₂ (λ s a. onFaceFrom k n axis last s (k .direction a)) (edge-sample (k .many) s a h) (edge-code (k .many) s a h)
 
+-- a sample that stays where it is along an axis is there
+pub stays : (c side : ℕ) → c < side → ltb (c + 0) side ≡ true
+stays c side h = lt-ltb (c + 0) side (omega arith)
+
 -- one sample along each axis
 module _ (n : Size) where
   pub step-x : site n 1 0 0 ≡ 1
@@ -62,9 +66,6 @@ module _ (n : Size) (above : ℕ → Bool) where
         && xor (above s) (above (s + site n (along d 0) (along d 1) (along d 2))))
     unfolding crossedFrom isThere otherEnd side
     tested d = rw (fits d 0, fits d 1, fits d 2)
-
-    stays : (c side : ℕ) → c < side → ltb (c + 0) side ≡ true
-    stays c side h = lt-ltb (c + 0) side (omega arith)
 
     pub crossed-x : crossed axes n above (3 * s) ≡ (ltb (x + 1) (n .nx) && xor (above s) (above (s + 1)))
     crossed-x =

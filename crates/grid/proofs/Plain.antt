@@ -8,7 +8,7 @@ use native.Mathlib.Nat.{zero-mul, one-mul}
 use native.Mathlib.Omega.{arith}
 use lib.Dec.{eqb, ltb}
 use lib.ListN.{getD}
-use borrow.Author.Tests.{eqb-true, lt-ltb}
+use borrow.Author.Tests.{eqb-true}
 use Rattle.laws.specs.Range.{one-if, allTo}
 use Rattle.laws.specs.Mesh.{rename}
 use Rattle.laws.proofs.Tests.{all-at}
@@ -20,7 +20,7 @@ use Rattle.grid.specs.Point.{offset, number, placeFrom, place}
 use Rattle.grid.specs.Mode.{cubes}
 use Rattle.grid.specs.Mesh.{cornerSite, caseAt, gridEdge, cubeTriangles, edgeMesh, mesh}
 use Rattle.grid.proofs.Sites.{choose, below-x, below-y, below-z}
-use Rattle.grid.proofs.Crossings.{edge-sample, edge-code, crossed-at, on-face-at, step-x, step-y, step-z}
+use Rattle.grid.proofs.Crossings.{edge-sample, edge-code, crossed-at, on-face-at, stays, step-x, step-y, step-z}
 
 -- an edge along axis a runs along that axis alone
 every-axis : allTo 3 (λ a. allTo 3 (λ axis. eqb (along (2 ^ a) axis) (one-if (eqb axis a)))) ≡ true
@@ -53,9 +53,6 @@ module _ (n : Size) where
   unfolding isThere fitsAlong side
   edge-there s a h px py l = go a h
     where
-      stays : (c side : ℕ) → c < side → ltb (c + 0) side ≡ true
-      stays c side h = lt-ltb (c + 0) side (omega arith)
-
       x : ltb (coordinate n 0 s + 0) (n .nx) ≡ true
       x = stays _ _ (below-x n px py s l)
 
