@@ -53,7 +53,7 @@ cube-edge m e h =
       step-z = eqb-true _ _ (s .1);
     }
 
--- an edge of the cube at (x, y, z), whose upper corner stands in the grid
+-- an edge of the cube at (x, y, z)
 module _ (m : Mode) (n : Size) (x y z e : ℕ) (edge : CubeEdge m e) where
   abbrev low : ℕ
   low = m .low e
@@ -78,6 +78,7 @@ module _ (m : Mode) (n : Size) (x y z e : ℕ) (edge : CubeEdge m e) where
       )
       (site-add n (x + cornerX low) (y + cornerY low) (z + cornerZ low) (along d 0) (along d 1) (along d 2)))
 
+  -- whose upper corner stands in the grid
   module _ (hx : x + cornerX (high m e) < n .nx) (hy : y + cornerY (high m e) < n .ny) (hz : z + cornerZ (high m e) < n .nz) where
     low-x : x + cornerX low < n .nx
     low-x = omega (arith, edge .step-x)
