@@ -9,14 +9,14 @@ use native.Mathlib.Omega.{arith}
 use lib.Dec.{eqb, ltb}
 use lib.ListN.{getD}
 use borrow.Author.Tests.{eqb-true}
-use Rattle.laws.specs.Range.{one-if, allTo}
+use Rattle.laws.specs.Range.{one-if, countTo, keepTo, allTo}
 use Rattle.laws.specs.Mesh.{rename}
 use Rattle.laws.proofs.Tests.{all-at}
 use Rattle.cube.specs.Cube.{lowCorner, axisOf}
 use Rattle.cube.specs.Answer.{triangles}
 use Rattle.grid.specs.Limits.{unit}
 use Rattle.grid.specs.Grid.{Size, sampleCount, coordinate, side, along, axes, otherEnd, fitsAlong, isThere, isEnd, isOutermost, someFace, edgeCount, crossedFrom, crossed, onFaceFrom, mark}
-use Rattle.grid.specs.Point.{offset, number, placeFrom, place}
+use Rattle.grid.specs.Point.{offset, pointEdges, number, placeFrom, place}
 use Rattle.grid.specs.Mode.{cubes}
 use Rattle.grid.specs.Mesh.{cornerSite, caseAt, gridEdge, cubeTriangles, edgeMesh, mesh}
 use Rattle.grid.proofs.Sites.{choose, below-x, below-y, below-z}
@@ -91,6 +91,16 @@ module _ (n : Size) where
       go (suc zero) h = unfold someFace onFaceFrom isOutermost in simp or-assoc
       go (suc (suc zero)) h = unfold someFace onFaceFrom isOutermost in simp (or-assoc, or-false)
       go (suc (suc (suc a))) h = absurd (omega arith)
+
+  -- one point per crossed grid edge, in rising order of grid edge number
+  pub points-are : (above : ℕ → Bool) → pointEdges axes n above ≡ keepTo (3 * (n .nx * (n .ny * n .nz))) (crossed axes n above)
+  unfolding pointEdges
+  points-are above = refl
+
+  -- numbered from 0
+  pub number-is : (above : ℕ → Bool) (e : ℕ) → number axes n above e ≡ countTo e (crossed axes n above)
+  unfolding number
+  number-is above e = refl
 
   -- across the edge a point has the edge's whole coordinates times 256; along it, from the lower end on, the offset is added
   pub place-is : (grey : ℕ) (samples : List ℕ) (s a axis : ℕ) → a < 3 → axis < 3
