@@ -38,7 +38,7 @@ unfoldable pub cleared : Rooms → Rooms
 cleared r =
     record { points = r .points; edges = r .edges; marks = r .marks; triangles = r .triangles; work = replicate (length (r .work)) 0 }
 
--- the cubes cut by a mode: `cubes` for the extractor of document 01, whose plain reading is in crates/grid/proofs/Plain.antt
+-- the cubes cut by a mode; document 01's is `cubes`, for which proofs/Plain.antt writes the outcome out
 module _ (m : Mode) (n : Size) (grey : ℕ) (samples : List ℕ) (r : Rooms) where
   -- the crossed grid edges in rising order, a point on each, and the triangles
   abbrev pub pointList : List ℕ

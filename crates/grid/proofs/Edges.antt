@@ -65,9 +65,9 @@ module _ (m : Mode) (n : Size) (x y z e : ℕ) (edge : CubeEdge m e) where
   s = cornerSite n x y z low
 
   -- the grid edge ends at the upper corner
-  edge-end : otherEnd n s d ≡ cornerSite n x y z (high m e)
+  upper-end : otherEnd n s d ≡ cornerSite n x y z (high m e)
   unfolding otherEnd cornerSite
-  edge-end =
+  upper-end =
       sym (rw (
         edge .step-x,
         edge .step-y,
@@ -94,9 +94,9 @@ module _ (m : Mode) (n : Size) (x y z e : ℕ) (edge : CubeEdge m e) where
     at = coordinate-site n (x + cornerX low) (y + cornerY low) (z + cornerZ low) low-x low-y low-z
 
     -- the grid edge is there
-    edge-there : isThere n s d ≡ true
+    within-grid : isThere n s d ≡ true
     unfolding isThere fitsAlong side
-    edge-there =
+    within-grid =
         rw (
           at 0,
           at 1,
@@ -112,7 +112,7 @@ module _ (m : Mode) (n : Size) (x y z e : ℕ) (edge : CubeEdge m e) where
     grid-edge-crossed above differ = crossed-at (m .kind) n s (m .code e) (edge .coded) above ∙ there
       where
         there : crossedFrom (m .kind) n above s d ≡ true
-        there = unfold crossedFrom in rw (edge-there, edge-end) differ
+        there = unfold crossedFrom in rw (within-grid, upper-end) differ
 
     pub grid-edge-small : gridEdge m n x y z e < edgeCount (m .kind) n
     unfolding gridEdge cornerSite

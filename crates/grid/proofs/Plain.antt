@@ -73,10 +73,17 @@ module _ (n : Size) where
   unfolding crossedFrom
   crossed-is above s a h = crossed-at axes n s a h above ∙ rw (edge-end s a h)
 
+  -- the two axes across axis a
+  abbrev pub firstAcross : ℕ → ℕ
+  firstAcross a = choose a 1 0 0
+
+  abbrev pub secondAcross : ℕ → ℕ
+  secondAcross a = choose a 2 2 1
+
   -- the mark is 1 when a coordinate across the edge is 0 or the last, else 0
   pub mark-is : (s a : ℕ) → a < 3
       → let outer : ℕ → Bool = λ axis. isEnd (coordinate n axis s) (side n axis) in
-      mark axes n (3 * s + a) ≡ one-if (outer (choose a 1 0 0) || outer (choose a 2 2 1))
+      mark axes n (3 * s + a) ≡ one-if (outer (firstAcross a) || outer (secondAcross a))
   unfolding mark someFace
   mark-is s a h = simp (on-face-at axes n s a h) (go a h)
     where
@@ -86,7 +93,7 @@ module _ (n : Size) where
       on : ℕ → ℕ → Bool → Bool
       on a axis last = onFaceFrom axes n axis last s (axes .direction a)
 
-      go : (a : ℕ) → a < 3 → one-if (someFace (on a)) ≡ one-if (outer (choose a 1 0 0) || outer (choose a 2 2 1))
+      go : (a : ℕ) → a < 3 → one-if (someFace (on a)) ≡ one-if (outer (firstAcross a) || outer (secondAcross a))
       go zero h = unfold someFace onFaceFrom isOutermost in simp or-assoc
       go (suc zero) h = unfold someFace onFaceFrom isOutermost in simp or-assoc
       go (suc (suc zero)) h = unfold someFace onFaceFrom isOutermost in simp (or-assoc, or-false)
