@@ -15,8 +15,10 @@ use Rattle.lines.specs.Decimal.{isDigit, decimalTo, decimal, signed}
 use Rattle.reading.specs.Reading.{after, digitsOn, readNumber, endedBy, readField, readRow, ahead, lineThen, readRows}
 use Rattle.lines.specs.Line.{endOf, line, fields, lettered}
 use Rattle.writing.specs.Writing.{refusalText}
-use Rattle.meshlines.specs.MeshLines.{pointsText, trianglesText, shellText, shellsText}
-use Rattle.meshtext.specs.MeshText.{linesOf, meshText}
+use Rattle.records.specs.declared.Shell.{Shell}
+use Rattle.meshlines.specs.MeshLines.{pointsText, trianglesText}
+use Rattle.shelllines.specs.ShellLines.{shellText, shellsText}
+use Rattle.meshtext.specs.MeshText.{frontText, meshText}
 use Rattle.gridtext.specs.Grid.{headOf, readHead, smoothingFits, headNumber, refused, granted, withRows, withHead, readGrid}
 use Rattle.gridtext.specs.GridText.{sampleRow, rowsText, headText, gridText}
 use Rattle.gridtext.specs.declared.Head.{Head}
@@ -45,11 +47,14 @@ example-text = refl
 unfoldable pub exampleOutput : List ℕ
 exampleOutput = bytes "M\t3\t1\t1\nV\t0\t128\t0\t0\t1\nV\t1\t0\t128\t0\t1\nV\t2\t0\t0\t128\t1\nT\t0\t1\t2\nS\t0\t3\t1\t1\t2097152\n"
 
-pub example-output : meshText (128 ∷ 0 ∷ 0 ∷ 0 ∷ 128 ∷ 0 ∷ 0 ∷ 0 ∷ 128 ∷ []) (0 ∷ 1 ∷ 2 ∷ []) (1 ∷ 1 ∷ 1 ∷ []) (0 ∷ 1 ∷ 2 ∷ []) (0 ∷ 3 ∷ 1 ∷ 1 ∷ []) (pos 2097152 ∷ []) ≡ exampleOutput
-unfolding bytes exampleOutput decimalTo decimal signed endOf line fields lettered joinTo pointsText trianglesText shellText shellsText linesOf
+abbrev pub exampleShell : Shell
+exampleShell = record { low = 0; points = 3; triangles = 1; touches = 1; volume = pos 2097152 }
+
+pub example-output : meshText (128 ∷ 0 ∷ 0 ∷ 0 ∷ 128 ∷ 0 ∷ 0 ∷ 0 ∷ 128 ∷ []) (0 ∷ 1 ∷ 2 ∷ []) (1 ∷ 1 ∷ 1 ∷ []) (0 ∷ 1 ∷ 2 ∷ []) 1 (λ n. exampleShell) ≡ exampleOutput
+unfolding bytes exampleOutput decimalTo decimal signed endOf line fields lettered joinTo pointsText trianglesText shellText shellsText frontText meshText
 example-output = refl
 
-negative-shell : shellText (4 ∷ 5 ∷ 6 ∷ 0 ∷ []) (negsuc 99) ≡ bytes "S\t4\t5\t6\t0\t-100\n"
+negative-shell : shellText (record { low = 4; points = 5; triangles = 6; touches = 0; volume = negsuc 99 }) ≡ bytes "S\t4\t5\t6\t0\t-100\n"
 unfolding bytes decimalTo decimal signed endOf fields shellText
 negative-shell = refl
 

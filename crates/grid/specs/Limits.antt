@@ -58,9 +58,12 @@ mostRounds = 100
 abbrev pub mostWeight : ℕ
 mostWeight = 256
 
--- "The program for small grids": the decimal digits of a number that is read, and the bytes of one that is written, twenty digits or a sign and nineteen
+-- "The program for small grids": the decimal digits of a number that is read, and of a number of 32 bits; the bytes of a number of 64 bits, twenty digits or a sign and nineteen
 abbrev pub numberDigits : ℕ
 numberDigits = 5
+
+abbrev pub wordDigits : ℕ
+wordDigits = 10
 
 abbrev pub longestNumber : ℕ
 longestNumber = 20

@@ -27,8 +27,10 @@ pub const MOST_ROUNDS: u32 = 100;
 // The weight with which a point goes all the way to its neighbours' mean.
 pub const MOST_WEIGHT: u32 = 256;
 
-// The decimal digits of a number that the program for small grids reads, and the bytes of one that it writes, twenty digits or a sign and nineteen.
+// The decimal digits of a number that the program for small grids reads, and of a number of 32 bits; the bytes of a number of 64 bits, twenty digits or a sign and nineteen.
 pub const NUMBER_DIGITS: usize = 5;
+
+pub const WORD_DIGITS: usize = 10;
 
 pub const LONGEST_NUMBER: usize = 20;
 

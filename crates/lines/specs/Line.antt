@@ -2,7 +2,7 @@
 use mathlib.Core.List.{List, [], _∷_, _++_}
 use Prim.Native.Nat.{ℕ, zero, suc, _+_, _*_}
 use lib.ListN.{length}
-use Rattle.grid.specs.Limits.{longestNumber}
+use Rattle.grid.specs.Limits.{wordDigits, longestNumber}
 use Rattle.lines.specs.Decimal.{decimal}
 
 -- fields are parted by tabs and a line is ended by a line feed: the byte behind a field that has k fields after it
@@ -30,11 +30,14 @@ fields more (n ∷ ns) = decimal n ++ endOf (length ns + more) ∷ fields more n
 abbrev pub mostFields : ℕ
 mostFields = 256
 
--- a field is a number and the byte that ends it
+-- a field is a number and the byte that ends it: a number of 32 bits, or one of 64 bits with a sign
 abbrev pub longestField : ℕ
-longestField = longestNumber + 1
+longestField = wordDigits + 1
 
--- so a letter, its tab and so many fields take at most so many bytes
+abbrev pub longestSigned : ℕ
+longestSigned = longestNumber + 1
+
+-- so a letter, its tab and so many fields of numbers of 32 bits take at most so many bytes
 abbrev pub longestLine : ℕ → ℕ
 longestLine k = 2 + longestField * k
 

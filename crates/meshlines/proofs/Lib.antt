@@ -1,3 +1,2 @@
--- Lines written one behind the other, and the line of a shell.
+-- Lines written one behind the other.
 pub mod LinesWritten
-pub mod ShellTexts

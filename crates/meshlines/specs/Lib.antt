@@ -1,2 +1,2 @@
--- The lines of a mesh's points, triangles and shells.
+-- The lines of a mesh's points and triangles.
 pub mod MeshLines

@@ -1,16 +1,13 @@
-// The lines of a mesh's points, triangles and shells, measured and written.
+// The lines of a mesh's points and triangles, measured and written.
 ghost use mathlib.Core.Path.{_≡_};
 ghost use Prim.Native.Nat.{_+_, _*_, _≤_, _<_};
 ghost use lib.ListN.{length};
 ghost use lib.Seq.{sets};
 ghost use Rattle.grid.specs.Limits.{mostPoints, mostTriangles};
 ghost use Rattle.lines.specs.Line.{longestLine};
-ghost use Rattle.meshlines.specs.MeshLines.{pointNumbers, pointsText, triangleNumbers, trianglesText, shellNumbers, shellText, shellsText};
+ghost use Rattle.meshlines.specs.MeshLines.{pointNumbers, pointsText, triangleNumbers, trianglesText};
 use writing::fields_length;
-use writing::signed_length;
-use writing::write_fields;
 use writing::write_lettered;
-use writing::write_signed;
 
 // The numbers of a point's line.
 fn point_numbers(points: &[u32], edges: &[u32], marks: &[u8], i: usize) -> [u32; 5]
@@ -104,65 +101,6 @@ pub fn write_triangles(triangles: &[u32], t: usize, room: &mut [u8], from: usize
     while i < t {
         let numbers = triangle_numbers(triangles, i);
         at = write_lettered(b'T', &numbers, room, at);
-        i += 1;
-    }
-    at
-}
-
-// The four numbers of a shell's line that have no sign.
-fn shell_numbers(records: &[u32], i: usize) -> [u32; 4]
-    requires { ⌜ 4 * i + 3 < length (now records) ⌝ }
-    ensures { λ r. ⌜ r ≡ shellNumbers (now (records .entry)) i ⌝ }
-{
-    let at = 4 * i;
-    [
-        records[at],
-        records[at + 1],
-        records[at + 2],
-        records[at + 3],
-    ]
-}
-
-// How many bytes the lines of all shells take.
-pub fn shells_length(records: &[u32], volumes: &[i64]) -> usize
-    requires { ⌜ (4 * length (now volumes) ≤ length (now records)) × (length (now volumes) ≤ mostPoints) ⌝ }
-    ensures length { λ r. ⌜ r ≡ length (shellsText (now (records .entry)) (now (volumes .entry)) (length (now (volumes .entry)))) ⌝ }
-    ensures small { λ r. ⌜ r ≤ longestLine 5 * length (now (volumes .entry)) ⌝ }
-{
-    let mut sum = 0;
-    let mut i = 0;
-    while i < volumes.len() {
-        let numbers = shell_numbers(records, i);
-        sum += 2 + fields_length(&numbers) + signed_length(volumes[i]) + 1;
-        i += 1;
-    }
-    sum
-}
-
-// Writes a shell's line, and answers the place behind it.
-fn write_shell(numbers: &[u32], volume: i64, room: &mut [u8], at: usize) -> usize
-    requires { ⌜ at + length (shellText (now numbers) volume) ≤ length (now room) ⌝ }
-    ensures place { λ r. ⌜ r ≡ at + length (shellText (now (numbers .entry)) volume) ⌝ }
-    ensures text { λ _. ⌜ now (room .exit) ≡ sets (now (room .entry)) at (shellText (now (numbers .entry)) volume) ⌝ }
-{
-    room[at] = b'S';
-    room[at + 1] = b'\t';
-    let behind = write_fields(numbers, 1, room, at + 2);
-    write_signed(volume, b'\n', room, behind)
-}
-
-// Writes the lines of all shells, and answers the place behind them.
-pub fn write_shells(records: &[u32], volumes: &[i64], room: &mut [u8], from: usize) -> usize
-    requires { ⌜ (4 * length (now volumes) ≤ length (now records)) × (length (now volumes) ≤ mostPoints) ⌝ }
-    requires { ⌜ from + length (shellsText (now records) (now volumes) (length (now volumes))) ≤ length (now room) ⌝ }
-    ensures place { λ r. ⌜ r ≡ from + length (shellsText (now (records .entry)) (now (volumes .entry)) (length (now (volumes .entry)))) ⌝ }
-    ensures text { λ _. ⌜ now (room .exit) ≡ sets (now (room .entry)) from (shellsText (now (records .entry)) (now (volumes .entry)) (length (now (volumes .entry)))) ⌝ }
-{
-    let mut at = from;
-    let mut i = 0;
-    while i < volumes.len() {
-        let numbers = shell_numbers(records, i);
-        at = write_shell(&numbers, volumes[i], room, at);
         i += 1;
     }
     at

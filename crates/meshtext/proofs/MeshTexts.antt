@@ -1,79 +1,70 @@
 -- The text of a mesh: its lists, its length, and its parts one after the other.
-use mathlib.Core.Path.{_≡_, _∙_}
+use mathlib.Core.Path.{_≡_, ap, _∙_}
 use mathlib.Core.List.{List, _++_}
-use mathlib.Core.Bool.{Bool, true, false, _&&_}
-use Prim.Native.Nat.{ℕ, _+_, _*_, _/_, _%_, _≤_}
+use mathlib.Core.Bool.{true, _&&_}
+use Prim.Native.Nat.{ℕ, _+_, _*_, _/_, _%_, _≤_, _<_}
 use native.Mathlib.Omega.{arith}
 use lib.Dec.{eqb, leb}
-use lib.IntN.{ℤ}
 use lib.ListN.{length, length-append}
 use lib.Seq.{sets}
-use borrow.Author.Tests.{eqb-true, leb-true}
+use borrow.Author.Tests.{eqb-true, leb-true, lt-ltb, le-ltb}
 use Rattle.laws.proofs.Tests.{both}
 use Rattle.laws.proofs.Writes.{sets-append}
 use Rattle.grid.specs.Limits.{mostPoints, mostTriangles}
 use Rattle.mesh.specs.Check.{lengthsFit}
 use Rattle.lines.specs.Line.{fields, lettered}
-use Rattle.writing.specs.Writing.{outcome, written}
-use Rattle.meshlines.specs.MeshLines.{pointsText, trianglesText, shellsText}
-use Rattle.meshtext.specs.MeshText.{letterM, linesOf, meshText, listsFit, recordsFit, meshWritten}
+use Rattle.meshlines.specs.MeshLines.{pointsText, trianglesText}
+use Rattle.writing.specs.Writing.{outcome}
+use Rattle.meshtext.specs.MeshText.{letterM, meshCounts, frontText, meshText, FrontFits, frontWritten}
 use Rattle.writing.proofs.Fields.{lettered-length}
+use Rattle.records.specs.declared.Shell.{Shell}
+use Rattle.shelllines.proofs.ShellTexts.{shells-same}
 
-pub lists-fit : (p e m t : ℕ) → listsFit p e m t ≡ true → (p ≡ 3 * m) × (e ≡ m) × (m ≤ mostPoints) × (t / 3 ≤ mostTriangles)
-unfolding listsFit lengthsFit
-lists-fit p e m t h =
-    let a = both (lengthsFit p t m) (eqb e m) h in
-    let b = both (eqb p (3 * m)) (eqb (t % 3) 0 && (leb m mostPoints && leb (t / 3) mostTriangles)) (a .0) in
-    let c = both (eqb (t % 3) 0) (leb m mostPoints && leb (t / 3) mostTriangles) (b .1) in
-    let d = both (leb m mostPoints) (leb (t / 3) mostTriangles) (c .1) in
-    (eqb-true p (3 * m) (b .0), eqb-true e m (a .1), leb-true m mostPoints (d .0), leb-true (t / 3) mostTriangles (d .1))
+-- the lengths of a mesh's lists
+pub lengths-fit : (p t m : ℕ) → lengthsFit p t m ≡ true → (p ≡ 3 * m) × (m ≤ mostPoints) × (t / 3 ≤ mostTriangles)
+unfolding lengthsFit
+lengths-fit p t m h =
+    let a = both (eqb p (3 * m)) (eqb (t % 3) 0 && (leb m mostPoints && leb (t / 3) mostTriangles)) h in
+    let b = both (eqb (t % 3) 0) (leb m mostPoints && leb (t / 3) mostTriangles) (a .1) in
+    let c = both (leb m mostPoints) (leb (t / 3) mostTriangles) (b .1) in
+    (eqb-true p (3 * m) (a .0), leb-true m mostPoints (c .0), leb-true (t / 3) mostTriangles (c .1))
 
-pub records-fit : (r v : ℕ) → recordsFit r v ≡ true → (r ≡ 4 * v) × (v ≤ mostPoints)
-unfolding recordsFit
-records-fit r v h =
-    let a = both (eqb r (4 * v)) (leb v mostPoints) h in
-    (eqb-true r (4 * v) (a .0), leb-true v mostPoints (a .1))
+pub front-fits : (points edges marks triangles : List ℕ) → FrontFits points edges marks triangles
+    → (length points ≡ 3 * length marks) × (length edges ≡ length marks) × (length marks ≤ mostPoints) × (length triangles / 3 ≤ mostTriangles)
+front-fits points edges marks triangles f = let l = lengths-fit (length points) (length triangles) (length marks) (f .lengths) in (l .0, f .edged, l .1, l .2)
 
-module _ (counts points edges marks triangles records : List ℕ) (volumes : List ℤ) where
+-- the lines before those of the shells
+module _ (counts points edges marks triangles : List ℕ) where
   abbrev p : List ℕ
   p = pointsText points edges marks (length marks)
 
   abbrev t : List ℕ
   t = trianglesText triangles (length triangles / 3)
 
-  abbrev s : List ℕ
-  s = shellsText records volumes (length volumes)
+  pub front-length : length (frontText counts points edges marks triangles) ≡ 2 + length (fields 0 counts) + length p + length t
+  unfolding frontText
+  front-length = rw (length-append (lettered letterM counts) (p ++ t), length-append p t, lettered-length letterM counts) (omega arith)
 
-  pub lines-of-length : length (linesOf counts points edges marks triangles records volumes) ≡ 2 + length (fields 0 counts) + length p + length t + length s
-  unfolding linesOf
-  lines-of-length =
-      rw (length-append (lettered letterM counts) (p ++ (t ++ s)), length-append p (t ++ s), length-append t s, lettered-length letterM counts) (omega arith)
-
-  pub lines-of-written : (room one two three four : List ℕ) (at behind beyond : ℕ) → one ≡ sets room 0 (lettered letterM counts) → at ≡ length (lettered letterM counts)
-      → two ≡ sets one at p → behind ≡ at + length p
-      → three ≡ sets two behind t → beyond ≡ behind + length t
-      → four ≡ sets three beyond s → four ≡ sets room 0 (linesOf counts points edges marks triangles records volumes)
-  unfolding linesOf
-  lines-of-written room one two three four at behind beyond e q f r g w h =
+  pub front-written : (room one two three : List ℕ) (at behind : ℕ) → one ≡ sets room 0 (lettered letterM counts) → at ≡ length (lettered letterM counts)
+      → two ≡ sets one at p → behind ≡ at + length p → three ≡ sets two behind t → three ≡ sets room 0 (frontText counts points edges marks triangles)
+  unfolding frontText
+  front-written room one two three at behind e q f r g =
       let a = lettered letterM counts in
       let z : at ≡ 0 + length a = omega arith in
-      h ∙ rw (g, w, sets-append two behind t s, f, r, sets-append one at p (t ++ s), e, z) (sets-append room 0 a (p ++ (t ++ s)))
+      g ∙ rw (f, r, sets-append one at p t, e, z) (sets-append room 0 a (p ++ t))
 
-module _ (points edges marks triangles records : List ℕ) (volumes : List ℤ) (room : List ℕ) where
-  abbrev fits : Bool
-  fits = listsFit (length points) (length edges) (length marks) (length triangles)
+-- records that are the same one by one
+pub mesh-same : (points edges marks triangles : List ℕ) (shells : ℕ) (f g : ℕ → Shell) → ((n : ℕ) → n < shells → f n ≡ g n)
+    → meshText points edges marks triangles shells f ≡ meshText points edges marks triangles shells g
+unfolding meshText
+mesh-same points edges marks triangles shells f g same = ap (λ s. frontText (meshCounts marks triangles shells) points edges marks triangles ++ s) (shells-same shells f g same)
 
-  abbrev recorded : Bool
-  recorded = recordsFit (length records) (length volumes)
+-- written, or refused because the room is too short for them and so many bytes more
+module _ (text room : List ℕ) (more : ℕ) where
+  pub front-refused : length room < length text + more → outcome 3 0 room ≡ frontWritten text more room
+  unfolding frontWritten
+  front-refused l = rw (lt-ltb (length room) (length text + more) l)
 
-  pub mesh-refused : fits ≡ false → outcome 6 0 room ≡ meshWritten points edges marks triangles records volumes room
-  unfolding meshWritten
-  mesh-refused e = rw e
-
-  pub records-refused : fits ≡ true → recorded ≡ false → outcome 6 0 room ≡ meshWritten points edges marks triangles records volumes room
-  unfolding meshWritten
-  records-refused e f = rw (e, f)
-
-  pub mesh-written : fits ≡ true → recorded ≡ true → written (meshText points edges marks triangles records volumes) room ≡ meshWritten points edges marks triangles records volumes room
-  unfolding meshWritten
-  mesh-written e f = rw (e, f)
+  pub front-granted : length text + more ≤ length room → outcome 0 (length text) (sets room 0 text) ≡ frontWritten text more room
+  unfolding frontWritten
+  front-granted l = rw (le-ltb (length room) (length text + more) l)

@@ -2,10 +2,10 @@
 use mathlib.Core.Path.{_≡_, sym, _∙_}
 use mathlib.Core.List.{List}
 use Prim.Native.Nat.{ℕ}
-use lib.IntN.{ℤ}
+use Rattle.records.specs.declared.Shell.{Shell}
 use Rattle.writing.specs.Writing.{Outcome}
 use Rattle.meshtext.specs.MeshText.{meshWritten}
 
-pub one-mesh : (points edges marks triangles records : List ℕ) (volumes : List ℤ) (room : List ℕ) (a b : Outcome)
-    → a ≡ meshWritten points edges marks triangles records volumes room → b ≡ meshWritten points edges marks triangles records volumes room → a ≡ b
-one-mesh points edges marks triangles records volumes room a b p q = p ∙ sym q
+pub one-mesh : (points edges marks triangles : List ℕ) (records : List Shell) (shells : ℕ) (room : List ℕ) (a b : Outcome)
+    → a ≡ meshWritten points edges marks triangles records shells room → b ≡ meshWritten points edges marks triangles records shells room → a ≡ b
+one-mesh points edges marks triangles records shells room a b p q = p ∙ sym q

@@ -1,49 +1,62 @@
 -- The text of a mesh (document 01, "The program for small grids", output).
 use mathlib.Core.Path.{_≡_}
 use mathlib.Core.List.{List, [], _∷_, _++_}
-use mathlib.Core.Bool.{Bool, cond, not, _&&_}
+use mathlib.Core.Bool.{Bool, true, cond, not, _&&_}
 use Prim.Native.Nat.{ℕ, _+_, _*_, _/_, _≤_}
-use lib.Dec.{eqb, leb}
-use lib.ListN.{length}
-use lib.IntN.{ℤ}
+use lib.Dec.{eqb, leb, ltb}
+use lib.ListN.{length, getD}
+use lib.Seq.{sets}
 use Rattle.grid.specs.Limits.{mostPoints}
 use Rattle.mesh.specs.Check.{lengthsFit}
+use Rattle.records.specs.declared.Shell.{Shell}
+use Rattle.records.specs.Grown.{none}
 use Rattle.lines.specs.Line.{longestLine, lettered}
 use Rattle.writing.specs.Writing.{Outcome, outcome, written}
-use Rattle.meshlines.specs.MeshLines.{pointsText, trianglesText, shellsText}
+use Rattle.meshlines.specs.MeshLines.{pointsText, trianglesText}
+use Rattle.shelllines.specs.ShellLines.{shellsText, longestShell}
 
 -- the letter `M`
 abbrev pub letterM : ℕ
 letterM = 77
 
--- the lines of a mesh: `M`: points, triangles, shells; then `V`, `T` and `S`
-unfoldable pub linesOf : List ℕ → List ℕ → List ℕ → List ℕ → List ℕ → List ℕ → List ℤ → List ℕ
-linesOf counts points edges marks triangles records volumes =
-    lettered letterM counts ++
-    (pointsText points edges marks (length marks) ++
-    (trianglesText triangles (length triangles / 3) ++ shellsText records volumes (length volumes)))
+-- `M`: points, triangles, shells
+abbrev pub meshCounts : List ℕ → List ℕ → ℕ → List ℕ
+meshCounts marks triangles shells = length marks ∷ length triangles / 3 ∷ shells ∷ []
 
-abbrev pub meshText : List ℕ → List ℕ → List ℕ → List ℕ → List ℕ → List ℤ → List ℕ
-meshText points edges marks triangles records volumes =
-    linesOf (length marks ∷ length triangles / 3 ∷ length volumes ∷ []) points edges marks triangles records volumes
+-- the lines before those of the shells: `M`, then `V` and `T`
+unfoldable pub frontText : List ℕ → List ℕ → List ℕ → List ℕ → List ℕ → List ℕ
+frontText counts points edges marks triangles =
+    lettered letterM counts ++ (pointsText points edges marks (length marks) ++ trianglesText triangles (length triangles / 3))
 
--- 6: the lengths are those of a mesh, and there is one edge number a point
-unfoldable pub listsFit : ℕ → ℕ → ℕ → ℕ → Bool
-listsFit points edges marks triangles = lengthsFit points triangles marks && eqb edges marks
+-- the lines of a mesh with so many shells, of which record n is this: `M`, `V`, `T` and `S`
+unfoldable pub meshText : List ℕ → List ℕ → List ℕ → List ℕ → ℕ → (ℕ → Shell) → List ℕ
+meshText points edges marks triangles shells record-of = frontText (meshCounts marks triangles shells) points edges marks triangles ++ shellsText shells record-of
 
--- 6: four numbers and one volume a shell, and no more shells than there may be points
-unfoldable pub recordsFit : ℕ → ℕ → Bool
-recordsFit records volumes = eqb records (4 * volumes) && leb volumes mostPoints
+-- 6: the lengths are those of a mesh, there is one edge number a point and a record a shell, and no more shells than there may be points
+unfoldable pub listsFit : ℕ → ℕ → ℕ → ℕ → ℕ → ℕ → Bool
+listsFit points edges marks triangles records shells = lengthsFit points triangles marks && (eqb edges marks && (leb shells records && leb shells mostPoints))
 
--- so many bytes hold the text of any mesh of so many points, triangles and shells: `M` and `T` have three numbers, `V` and `S` five
+-- the lists of points and triangles that are written
+pub record FrontFits (points edges marks triangles : List ℕ) : Type 0 where
+  pub lengths : lengthsFit (length points) (length triangles) (length marks) ≡ true
+  pub edged : length edges ≡ length marks
+
+-- so many bytes hold the text of any mesh of so many points, triangles and shells: `M` and `T` have three numbers, `V` has five
+abbrev pub longestFront : ℕ → ℕ → ℕ
+longestFront points triangles = longestLine 3 + longestLine 5 * points + longestLine 3 * triangles
+
 abbrev pub longest : ℕ → ℕ → ℕ → ℕ
-longest points triangles shells = longestLine 3 + longestLine 5 * points + longestLine 3 * triangles + longestLine 5 * shells
+longest points triangles shells = longestFront points triangles + longestShell * shells
 
-unfoldable pub meshWritten : List ℕ → List ℕ → List ℕ → List ℕ → List ℕ → List ℤ → List ℕ → Outcome
-meshWritten points edges marks triangles records volumes room =
-    cond (not (listsFit (length points) (length edges) (length marks) (length triangles))) (outcome 6 0 room)
-    (cond (not (recordsFit (length records) (length volumes))) (outcome 6 0 room)
-    (written (meshText points edges marks triangles records volumes) room))
+-- the text of a mesh and the first of these records goes to the front of the room
+unfoldable pub meshWritten : List ℕ → List ℕ → List ℕ → List ℕ → List Shell → ℕ → List ℕ → Outcome
+meshWritten points edges marks triangles records shells room =
+    cond (not (listsFit (length points) (length edges) (length marks) (length triangles) (length records) shells)) (outcome 6 0 room)
+    (written (meshText points edges marks triangles shells (λ n. getD records n none)) room)
+
+-- the lines before those of the shells, written if the room holds them and so many bytes more
+unfoldable pub frontWritten : List ℕ → ℕ → List ℕ → Outcome
+frontWritten text more room = cond (ltb (length room) (length text + more)) (outcome 3 0 room) (outcome 0 (length text) (sets room 0 text))
 
 -- a room that holds the longest text is not too short
 abbrev pub Holds : ℕ → ℕ → ℕ → ℕ → ℕ → Type 0

@@ -1,130 +1,152 @@
 // The text of a mesh: its points, triangles and shells.
 ghost use mathlib.Core.Path.{_≡_};
-ghost use mathlib.Core.Bool.{true};
-ghost use Prim.Native.Nat.{_+_, _*_, _/_, _≤_, _<_};
+ghost use mathlib.Core.Bool.{cond};
+ghost use Prim.Native.Nat.{_*_, _/_, _≤_};
 ghost use lib.ListN.{length};
 ghost use lib.Seq.{sets};
+ghost use Rattle.grid.specs.Limits.{mostPoints};
+ghost use Rattle.shelllines.specs.ShellLines.{longestShell};
 ghost use Rattle.writing.specs.Writing.{outcome};
-ghost use Rattle.meshtext.specs.MeshText.{linesOf, listsFit, recordsFit, longest, Holds, meshWritten};
+ghost use Rattle.meshtext.specs.MeshText.{meshCounts, frontText, longestFront, FrontFits, listsFit, Holds, frontWritten, meshWritten};
 use grid::limits::MOST_POINTS;
 use meshlines::points_length;
-use meshlines::shells_length;
 use meshlines::triangles_length;
 use meshlines::write_points;
-use meshlines::write_shells;
 use meshlines::write_triangles;
+use records::Shell;
+use shelllines::shells_length;
+use shelllines::write_shells;
 use writing::Written;
 use writing::fields_length;
 use writing::refused;
 use writing::write_lettered;
 
-fn lists_fit(points: usize, edges: usize, v: usize, triangles: usize) -> bool
-    ensures { λ r. ⌜ r ≡ listsFit points edges v triangles ⌝ }
+// Refuses lists that do not fit each other with 6.
+fn check_lists(
+    points: usize,
+    edges: usize,
+    v: usize,
+    triangles: usize,
+    records: usize,
+    shells: usize,
+) -> Written
+    ensures { λ r. ⌜ r ≡ record { number = cond (listsFit points edges v triangles records shells) 0 6; length = 0 } ⌝ }
 {
     if !mesh::lengths_fit(points, triangles, v) {
-        return false;
+        return refused(6);
     }
-    edges == v
+    if edges != v {
+        return refused(6);
+    }
+    if shells > records {
+        return refused(6);
+    }
+    // No mesh has more shells than points.
+    if shells > (MOST_POINTS as usize) {
+        return refused(6);
+    }
+    Written {
+        number: 0,
+        length: 0,
+    }
 }
 
-// No mesh has more shells than points.
-fn records_fit(records: usize, volumes: usize) -> bool
-    ensures { λ r. ⌜ r ≡ recordsFit records volumes ⌝ }
-{
-    if volumes > (MOST_POINTS as usize) {
-        return false;
-    }
-    records == 4 * volumes
-}
-
-// The length of a mesh's text.
-fn mesh_length(
+// How many bytes the lines before those of the shells take.
+fn front_length(
     counts: &[u32],
     points: &[u32],
     edges: &[u32],
     marks: &[u8],
     triangles: &[u32],
-    records: &[u32],
-    volumes: &[i64],
 ) -> usize
-    requires { ⌜ listsFit (length (now points)) (length (now edges)) (length (now marks)) (length (now triangles)) ≡ true ⌝ }
-    requires { ⌜ recordsFit (length (now records)) (length (now volumes)) ≡ true ⌝ }
-    requires { ⌜ length (now counts) ≡ 3 ⌝ }
-    ensures small { λ r. ⌜ r ≤ longest (length (now (marks .entry))) (length (now (triangles .entry)) / 3) (length (now (volumes .entry))) ⌝ }
-    ensures length { λ r.
-        let text = linesOf (now (counts .entry)) (now (points .entry)) (now (edges .entry)) (now (marks .entry)) (now (triangles .entry)) (now (records .entry)) (now (volumes .entry)) in
-        ⌜ r ≡ length text ⌝ }
+    requires { ⌜ FrontFits (now points) (now edges) (now marks) (now triangles) × (length (now counts) ≡ 3) ⌝ }
+    ensures small { λ r. ⌜ r ≤ longestFront (length (now (marks .entry))) (length (now (triangles .entry)) / 3) ⌝ }
+    ensures length { λ r. ⌜ r ≡ length (frontText (now (counts .entry)) (now (points .entry)) (now (edges .entry)) (now (marks .entry)) (now (triangles .entry))) ⌝ }
 {
     let head = 2 + fields_length(counts);
     let middle = points_length(points, edges, marks, marks.len());
-    let end = triangles_length(triangles, triangles.len() / 3);
-    head + middle + end + shells_length(records, volumes)
+    head + middle + triangles_length(triangles, triangles.len() / 3)
 }
 
-// Writes a mesh's text to the front of a room that holds it.
+// Writes the lines before those of the shells to the front of a room that holds them.
 fn write_lines(
     counts: &[u32],
     points: &[u32],
     edges: &[u32],
     marks: &[u8],
     triangles: &[u32],
-    records: &[u32],
-    volumes: &[i64],
     room: &mut [u8],
 )
-    requires { ⌜ listsFit (length (now points)) (length (now edges)) (length (now marks)) (length (now triangles)) ≡ true ⌝ }
-    requires { ⌜ recordsFit (length (now records)) (length (now volumes)) ≡ true ⌝ }
-    requires { ⌜ length (linesOf (now counts) (now points) (now edges) (now marks) (now triangles) (now records) (now volumes)) ≤ length (now room) ⌝ }
-    ensures { λ _.
-        let text = linesOf (now (counts .entry)) (now (points .entry)) (now (edges .entry)) (now (marks .entry)) (now (triangles .entry)) (now (records .entry)) (now (volumes .entry)) in
-        ⌜ now (room .exit) ≡ sets (now (room .entry)) 0 text ⌝ }
+    requires { ⌜ FrontFits (now points) (now edges) (now marks) (now triangles) ⌝ }
+    requires { ⌜ length (frontText (now counts) (now points) (now edges) (now marks) (now triangles)) ≤ length (now room) ⌝ }
+    ensures { λ _. ⌜ now (room .exit) ≡ sets (now (room .entry)) 0 (frontText (now (counts .entry)) (now (points .entry)) (now (edges .entry)) (now (marks .entry)) (now (triangles .entry))) ⌝ }
 {
     let behind_counts = write_lettered(b'M', counts, room, 0);
     let behind_points = write_points(points, edges, marks, marks.len(), room, behind_counts);
-    let behind_triangles = write_triangles(triangles, triangles.len() / 3, room, behind_points);
-    write_shells(records, volumes, room, behind_triangles);
+    write_triangles(triangles, triangles.len() / 3, room, behind_points);
 }
 
-// Writes the text of a mesh to the front of the room, and answers its length: its points and triangles, and each shell's four numbers and sixfold volume.
+// Writes the lines before those of the shells, which take so many bytes more, and answers their length. A room that is too short for all is refused with 3, and stays.
+fn write_front(
+    points: &[u32],
+    edges: &[u32],
+    marks: &[u8],
+    triangles: &[u32],
+    shells: usize,
+    more: usize,
+    room: &mut [u8],
+) -> Written
+    requires { ⌜ FrontFits (now points) (now edges) (now marks) (now triangles) × (shells ≤ mostPoints) × (more ≤ longestShell * shells) ⌝ }
+    ensures { λ r.
+        let text = frontText (meshCounts (now (marks .entry)) (now (triangles .entry)) shells) (now (points .entry)) (now (edges .entry)) (now (marks .entry)) (now (triangles .entry)) in
+        ⌜ Holds (length (now (marks .entry))) (length (now (triangles .entry)) / 3) shells (length (now (room .entry))) (r .number)
+        × (outcome (r .number) (r .length) (now (room .exit)) ≡ frontWritten text more (now (room .entry))) ⌝ }
+{
+    let counts = [
+        marks.len() as u32,
+        (triangles.len() / 3) as u32,
+        shells as u32,
+    ];
+    let length = front_length(&counts, points, edges, marks, triangles);
+    if room.len() < length + more {
+        return refused(3);
+    }
+    write_lines(&counts, points, edges, marks, triangles, room);
+    Written { number: 0, length }
+}
+
+// Writes the text of a mesh and the first of the lent records, one a shell, to the front of the room, and answers its length.
 // Lists that do not fit are refused with 6, and a room that is too short with 3; a refusal leaves the room.
 pub fn write_mesh(
     points: &[u32],
     edges: &[u32],
     marks: &[u8],
     triangles: &[u32],
-    records: &[u32],
-    volumes: &[i64],
+    records: &[Shell],
+    shells: usize,
     room: &mut [u8],
 ) -> Written
-    ensures holds { λ r. ⌜ Holds (length (now (marks .entry))) (length (now (triangles .entry)) / 3) (length (now (volumes .entry))) (length (now (room .entry))) (r .number) ⌝ }
-    ensures text { λ r.
+    ensures { λ r.
         let after = outcome (r .number) (r .length) (now (room .exit)) in
-        ⌜ after ≡ meshWritten (now (points .entry)) (now (edges .entry)) (now (marks .entry)) (now (triangles .entry)) (now (records .entry)) (now (volumes .entry)) (now (room .entry)) ⌝ }
+        ⌜ Holds (length (now (marks .entry))) (length (now (triangles .entry)) / 3) shells (length (now (room .entry))) (r .number)
+        × (after ≡ meshWritten (now (points .entry)) (now (edges .entry)) (now (marks .entry)) (now (triangles .entry)) (now (records .entry)) shells (now (room .entry))) ⌝ }
 {
-    if !lists_fit(points.len(), edges.len(), marks.len(), triangles.len()) {
-        return refused(6);
-    }
-    if !records_fit(records.len(), volumes.len()) {
-        return refused(6);
-    }
-    let counts = [
-        marks.len() as u32,
-        (triangles.len() / 3) as u32,
-        volumes.len() as u32,
-    ];
-    let length = mesh_length(&counts, points, edges, marks, triangles, records, volumes);
-    if room.len() < length {
-        return refused(3);
-    }
-    write_lines(
-        &counts,
-        points,
-        edges,
-        marks,
-        triangles,
-        records,
-        volumes,
-        room,
+    let fit = check_lists(
+        points.len(),
+        edges.len(),
+        marks.len(),
+        triangles.len(),
+        records.len(),
+        shells,
     );
+    if fit.number != 0 {
+        return fit;
+    }
+    let more = shells_length(records, shells);
+    let front = write_front(points, edges, marks, triangles, shells, more, room);
+    if front.number != 0 {
+        return front;
+    }
+    let length = write_shells(records, shells, room, front.length);
     Written { number: 0, length }
 }

@@ -1,3 +1,3 @@
--- The smoothing is granted; the shells are listed, and their records are read again from the fronts of the rooms.
+-- The smoothing is granted; the shells are listed, and what is written with their records is what is to be printed.
 pub mod Smoothing
 pub mod Listed

@@ -3,14 +3,11 @@ use mathlib.Core.Path.{_≡_}
 use mathlib.Core.List.{List}
 use Prim.Native.Nat.{ℕ}
 use lib.ListN.{length}
-use Rattle.laws.specs.Range.{joinTo}
-use Rattle.laws.specs.Values.{listTo}
 use Rattle.mesh.specs.Mesh.{trianglesOf}
 use Rattle.rounds.specs.Round.{rounds}
 use Rattle.shellnumbers.specs.Numbering.{Numbering}
 use Rattle.records.specs.Record.{recordOf}
 use Rattle.closed.specs.Left.{Mesh}
-use Rattle.listing.specs.Listing.{recordNumbers}
 use Rattle.meshtext.specs.MeshText.{meshText}
 
 -- k rounds of weight w give the points other places; triangles and marks are the mesh's own
@@ -27,6 +24,4 @@ pub record Prints (m : Mesh) (edges text : List ℕ) : Type 0 where
   pub numbers : List ℕ
   pub shells : ℕ
   pub numbering : Numbering (trianglesOf (m .triangles)) (length (m .marks)) numbers shells
-  pub written :
-      let record-of = recordOf (m .points) (m .triangles) (m .marks) numbers in
-      text ≡ meshText (m .points) edges (m .marks) (m .triangles) (joinTo shells (λ n. recordNumbers (record-of n))) (listTo shells (λ n. record-of n .volume))
+  pub written : text ≡ meshText (m .points) edges (m .marks) (m .triangles) shells (recordOf (m .points) (m .triangles) (m .marks) numbers)

@@ -4,8 +4,41 @@ ghost use lib.ListN.{length, take};
 ghost use Rattle.grid.specs.Limits.{mostRounds, mostWeight};
 ghost use Rattle.printing.specs.Prints.{afterRounds, Prints};
 ghost use Rattle.printing.specs.SmallMesh.{meshOf, SmallMesh};
+ghost use Rattle.printing.specs.Listed.{ListsAndWrites};
+ghost use Rattle.writing.specs.Writing.{outcome};
 
 pub mod zeros;
+
+use writing::Written;
+use zeros::MOST_SMALL_POINTS;
+
+// Lists the shells of a mesh into an array of records, and writes its text with them. A function that holds records in a list is proved by hand: this is the only
+// one here, and whatever calls it meets plain numbers.
+fn write_records(
+    points: &[u32],
+    edges: &[u32],
+    marks: &[u8],
+    triangles: &[u32],
+    numbers: &mut [u32],
+    work: &mut [u32],
+    output: &mut [u8],
+) -> Written
+    ensures { λ r.
+        let after = outcome (r .number) (r .length) (now (output .exit)) in
+        ⌜ ListsAndWrites (now (points .entry)) (now (edges .entry)) (now (marks .entry)) (now (triangles .entry)) (now (numbers .entry)) (now (work .entry)) (now (output .entry)) after ⌝ }
+{
+    let mut records = [records::blank(); MOST_SMALL_POINTS];
+    let listed = shells::shells(points, triangles, marks, numbers, &mut records, work);
+    meshtext::write_mesh(
+        points,
+        edges,
+        marks,
+        triangles,
+        &records,
+        listed.shells,
+        output,
+    )
+}
 
 // Lists the shells of a mesh and writes its text. Answers the text's length.
 fn write_listed(
@@ -22,25 +55,13 @@ fn write_listed(
     let v = marks.len();
     let mut numbers = zeros::numbers();
     let mut work = zeros::listing();
-    let mut records = zeros::records();
-    let mut volumes = zeros::volumes();
-    let listed = listing::list(
-        points,
-        triangles,
-        marks,
-        &mut numbers[..v],
-        &mut records,
-        &mut volumes,
-        &mut work[..2 * v],
-    );
-    let shells = listed.shells;
-    let written = meshtext::write_mesh(
+    let written = write_records(
         points,
         edges,
         marks,
         triangles,
-        &records[..4 * shells],
-        &volumes[..shells],
+        &mut numbers[..v],
+        &mut work[..2 * v],
         output,
     );
     written.length

@@ -8,6 +8,7 @@ use cube::MOST_CASE_TRIANGLES;
 use grid::limits::LONGEST_NUMBER;
 use grid::limits::MOST_SMALL;
 use grid::limits::NUMBER_DIGITS;
+use grid::limits::WORD_DIGITS;
 
 // At most three grid edges leave a sample.
 pub const MOST_SMALL_POINTS: usize = 3 * (MOST_SMALL as usize);
@@ -20,18 +21,20 @@ const LONGEST_SAMPLE: usize = NUMBER_DIGITS + 1;
 
 pub const MOST_INPUT: usize = 2 + LONGEST_SAMPLE * 6 + LONGEST_SAMPLE * (MOST_SMALL as usize) + 1;
 
-// A number of the output and the byte that ends it, and the longest line of three and of five behind its letter and tab.
-const LONGEST_FIELD: usize = LONGEST_NUMBER + 1;
+// A number of 32 bits and the byte that ends it; the longest line of three and of five behind its letter and tab; and that of a shell, four such numbers and a volume.
+const LONGEST_FIELD: usize = WORD_DIGITS + 1;
 
 const LINE_OF_THREE: usize = 2 + LONGEST_FIELD * 3;
 
 const LINE_OF_FIVE: usize = 2 + LONGEST_FIELD * 5;
 
+const LONGEST_SHELL: usize = 2 + LONGEST_FIELD * 4 + LONGEST_NUMBER + 1;
+
 // The longest text of a mesh with so many points, triangles and shells, of which there are no more than points.
 pub const MOST_OUTPUT: usize = LINE_OF_THREE
     + LINE_OF_FIVE * MOST_SMALL_POINTS
     + LINE_OF_THREE * MOST_SMALL_TRIANGLES
-    + LINE_OF_FIVE * MOST_SMALL_POINTS;
+    + LONGEST_SHELL * MOST_SMALL_POINTS;
 
 pub fn input() -> [u8; MOST_INPUT]
     ensures { λ r. ⌜ mostInput ≡ length r ⌝ }
@@ -84,18 +87,4 @@ pub fn listing() -> [u32; 2 * MOST_SMALL_POINTS]
     ensures { λ r. ⌜ 2 * mostSmallPoints ≡ length r ⌝ }
 {
     [0; 2 * MOST_SMALL_POINTS]
-}
-
-// Four numbers a shell.
-pub fn records() -> [u32; 4 * MOST_SMALL_POINTS]
-    ensures { λ r. ⌜ 4 * mostSmallPoints ≡ length r ⌝ }
-{
-    [0; 4 * MOST_SMALL_POINTS]
-}
-
-// A volume a shell.
-pub fn volumes() -> [i64; MOST_SMALL_POINTS]
-    ensures { λ r. ⌜ mostSmallPoints ≡ length r ⌝ }
-{
-    [0; MOST_SMALL_POINTS]
 }

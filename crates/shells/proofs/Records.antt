@@ -1,6 +1,7 @@
 -- `Slices.antt` at the struct `Shell`: its element, and the names at it that a walk writes often.
 --     E, R, ty         the element; its row; the MIR type of a local that holds a record.        EL, RL, tyL     the same of the answer `Listed`
 --     mach, vals       a record's machine value.        typed, makes-it, tells, same, is-of     its laws: the value has the MIR type; what a record owns is had for nothing; a value that the row relates to a record is the record's
+--     copies           a record is copied by reading it
 --     Mut              as `Slices.antt` has it
 -- No line here names a field. Assumes nothing.
 use mathlib.Core.Path.{_≡_, ap, subst}
@@ -15,8 +16,9 @@ use prog.Wp.{Heap}
 use ghost.Atoms.{Atoms}
 use types.Kit.{Given}
 use denote.RattleType.{RattleType}
-use denote.Laws.{Is, Makes}
+use denote.Laws.{Is, Makes, Copy}
 use denote.Steps.{only}
+use denote.Struct.Laws as LL
 use Rattle.records.specs.declared.Shell.{Shell}
 use Rattle.records.specs.Grown.{none}
 use Rattle.records.proofs.Shell as T
@@ -67,3 +69,6 @@ is-of h v is = subst (Is R h) (tells h (v ∷ []) is) is
 
 abbrev pub Mut : Lft → GName → ℕ → ℕ → ℕ → List Shell → Fml
 Mut κ γ b o m l = S.Mut E κ γ b o m l
+
+pub copies : {M : Type 1} (𝓤 : URA M) (H : Heap 𝓤) (A : Atoms 𝓤) → Given 𝓤 H A → Copy 𝓤 H A R
+copies 𝓤 H A W = LL.copy T.the-type T′.the-copy 𝓤 H A W

@@ -35,6 +35,8 @@ use Rattle.gridtext.specs.Grid.{smoothingFits, headNumber}
 use Rattle.gridtext.specs.GridText.{Small}
 use Rattle.figures.proofs.Examples.{exampleInput, exampleNumbers, exampleSamples, exampleOutput, example-text, example-output}
 use Rattle.small.specs.Answer.{gridEdges, extractedMesh, smoothedMesh, Answers, printed}
+use Rattle.shelllines.specs.ShellLines.{shellsText}
+use Rattle.meshtext.specs.MeshText.{meshText}
 use Rattle.printing.specs.Prints.{afterRounds, Prints}
 use Rattle.small.proofs.OneAnswer.{one-answer}
 
@@ -62,7 +64,7 @@ mesh-is = refl
 
 -- one shell, and the text
 corner-prints : Prints corner (0 ∷ 1 ∷ 2 ∷ []) exampleOutput
-unfolding allTo someTo trianglesOf joinTo shareSide sides isIn sameArrow listTo recordFrom pointsUnder trianglesUnder namesUnder keepTo anyOf sumOfℤ sixfold determinant diagonals
+unfolding allTo someTo trianglesOf joinTo shareSide sides isIn sameArrow listTo meshText shellsText recordFrom pointsUnder trianglesUnder namesUnder keepTo anyOf sumOfℤ sixfold determinant diagonals
 corner-prints =
     record {
       numbers = replicate 3 0;

@@ -4,15 +4,12 @@ use mathlib.Core.List.{List}
 use Prim.Native.Nat.{ℕ}
 use native.Mathlib.Omega.{arith}
 use lib.ListN.{length, take, replicate, length-replicate}
-use Rattle.laws.specs.Range.{joinTo}
 use Rattle.laws.proofs.Rooms.{laid-read}
-use Rattle.laws.specs.Values.{listTo}
 use Rattle.grid.specs.Limits.{mostSmall}
 use Rattle.mesh.specs.Mesh.{trianglesOf}
 use Rattle.records.specs.Record.{recordOf}
 use Rattle.shellnumbers.proofs.OneNumbering.{one-numbering}
 use Rattle.closed.specs.Left.{Mesh}
-use Rattle.listing.specs.Listing.{recordNumbers}
 use Rattle.gridtext.specs.Grid.{samplesOf, granted, readGrid}
 use Rattle.meshtext.specs.MeshText.{meshText}
 use Rattle.gridtext.specs.GridText.{Small, gridText}
@@ -27,9 +24,8 @@ use Rattle.small.specs.Promise.{headIn}
 pub one-print : (m : Mesh) (edges a b : List ℕ) → Prints m edges a → Prints m edges b → a ≡ b
 one-print m edges a b p q =
     let u = one-numbering (trianglesOf (m .triangles)) (length (m .marks)) (p .numbers) (q .numbers) (p .shells) (q .shells) (p .numbering) (q .numbering) in
-    let record-of = recordOf (m .points) (m .triangles) (m .marks) in
     p .written
-    ∙ (ap₂ (λ found shells. meshText (m .points) edges (m .marks) (m .triangles) (joinTo shells (λ n. recordNumbers (record-of found n))) (listTo shells (λ n. record-of found n .volume))) (u .0) (u .1)
+    ∙ (ap₂ (λ found shells. meshText (m .points) edges (m .marks) (m .triangles) shells (recordOf (m .points) (m .triangles) (m .marks) found)) (u .0) (u .1)
     ∙ sym (q .written))
 
 abbrev room : List ℕ

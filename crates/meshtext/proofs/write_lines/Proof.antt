@@ -5,25 +5,22 @@ use native.Mathlib.Omega.{arith}
 use lib.ListN.{length}
 use Rattle.grid.specs.Limits.{mostPoints, mostTriangles}
 use Rattle.lines.specs.Line.{fields}
-use Rattle.meshlines.specs.MeshLines.{pointsText, trianglesText, shellsText}
+use Rattle.meshlines.specs.MeshLines.{pointsText, trianglesText}
 use Rattle.writing.proofs.Fields.{lettered-length}
 use Rattle.meshtext.specs.MeshText.{letterM}
-use Rattle.meshtext.proofs.MeshTexts.{lists-fit, records-fit, lines-of-length, lines-of-written}
+use Rattle.meshtext.proofs.MeshTexts.{front-fits, front-length, front-written}
 use borrow.Author.Needs.{needs}
 use Rattle.meshtext.proofs.write_lines.Statement.{statement}
 use Rattle.meshtext.proofs.write_lines.Tie as tie
 
 abbrev begun : tie.After-write-lettered-arg → tie.Start
-begun c = c .before .before .before .before .before .before .before .before
+begun c = c .before .before .before .before .before .before .before
 
-facts : (s : tie.Start) → (length (s .args .points .now) ≡ 3 * length (s .args .marks .now)) × (length (s .args .edges .now) ≡ length (s .args .marks .now)) × (length (s .args .marks .now) ≤ mostPoints) × (length (s .args .triangles .now) / 3 ≤ mostTriangles)
-facts s = lists-fit (length (s .args .points .now)) (length (s .args .edges .now)) (length (s .args .marks .now)) (length (s .args .triangles .now)) (s .pre .0)
+facts : (s : tie.Start) → let a = s .args in (length (a .points .now) ≡ 3 * length (a .marks .now)) × (length (a .edges .now) ≡ length (a .marks .now)) × (length (a .marks .now) ≤ mostPoints) × (length (a .triangles .now) / 3 ≤ mostTriangles)
+facts s = let a = s .args in front-fits (a .points .now) (a .edges .now) (a .marks .now) (a .triangles .now) (s .pre .0)
 
-recorded : (s : tie.Start) → (length (s .args .records .now) ≡ 4 * length (s .args .volumes .now)) × (length (s .args .volumes .now) ≤ mostPoints)
-recorded s = records-fit (length (s .args .records .now)) (length (s .args .volumes .now)) (s .pre .1 .0)
-
-long : (s : tie.Start) → let a = s .args in 2 + length (fields 0 (a .counts .now)) + length (pointsText (a .points .now) (a .edges .now) (a .marks .now) (length (a .marks .now))) + length (trianglesText (a .triangles .now) (length (a .triangles .now) / 3)) + length (shellsText (a .records .now) (a .volumes .now) (length (a .volumes .now))) ≤ length (a .room .now)
-long s = let a = s .args in omega (arith, s .pre .1 .1, lines-of-length (a .counts .now) (a .points .now) (a .edges .now) (a .marks .now) (a .triangles .now) (a .records .now) (a .volumes .now))
+long : (s : tie.Start) → let a = s .args in 2 + length (fields 0 (a .counts .now)) + length (pointsText (a .points .now) (a .edges .now) (a .marks .now) (length (a .marks .now))) + length (trianglesText (a .triangles .now) (length (a .triangles .now) / 3)) ≤ length (a .room .now)
+long s = let a = s .args in omega (arith, s .pre .1, front-length (a .counts .now) (a .points .now) (a .edges .now) (a .marks .now) (a .triangles .now))
 
 write-lettered-requires : tie.Need-write-lettered-requires
 write-lettered-requires c κs = let s = begun c in omega (arith, long s, lettered-length letterM (s .args .counts .now))
@@ -41,28 +38,18 @@ write-triangles-requires c κs =
     let s = begun (w .before) in
     (omega (arith, facts s), omega (arith, long s, lettered-length letterM (s .args .counts .now), w .write-lettered .ensures .0, w .write-lettered .kept .1 .1 .0, p .write-points .ensures .0, p .write-points .kept .1 .1 .1 .1 .0))
 
-write-shells-requires : tie.Need-write-shells-requires
-write-shells-requires c κs =
-    let t = c .before .before .before in
-    let p = t .before .before .before .before in
-    let w = p .before .before .before .before in
-    let s = begun (w .before) in
-    (omega (arith, recorded s), omega (arith, long s, lettered-length letterM (s .args .counts .now), w .write-lettered .ensures .0, w .write-lettered .kept .1 .1 .0, p .write-points .ensures .0, p .write-points .kept .1 .1 .1 .1 .0, t .write-triangles .ensures .0, t .write-triangles .kept .1 .1 .0))
-
 same-length : tie.Need-same-length
 same-length c = search needs
 
 returns : tie.Need-returns
 returns c =
-    let s = c .before .before in
-    let t = s .before .before .before .before in
+    let t = c .before .before in
     let p = t .before .before .before .before in
     let w = p .before .before .before .before in
     let a = begun (w .before) .args in
-    lines-of-written (a .counts .now) (a .points .now) (a .edges .now) (a .marks .now) (a .triangles .now) (a .records .now) (a .volumes .now)
-    (a .room .now) (w .write-lettered .last .1 .1 .0) (p .write-points .last .1 .1 .1 .1 .0) (t .write-triangles .last .1 .1 .0) (s .write-shells .last .1 .1 .0)
-    (w .write-lettered .result) (p .write-points .result) (t .write-triangles .result) (w .write-lettered .ensures .1) (omega (arith, w .write-lettered .ensures .0)) (p .write-points .ensures .1) (p .write-points .ensures .0)
-    (t .write-triangles .ensures .1) (t .write-triangles .ensures .0) (s .write-shells .ensures .1)
+    front-written (a .counts .now) (a .points .now) (a .edges .now) (a .marks .now) (a .triangles .now)
+    (a .room .now) (w .write-lettered .last .1 .1 .0) (p .write-points .last .1 .1 .1 .1 .0) (t .write-triangles .last .1 .1 .0)
+    (w .write-lettered .result) (p .write-points .result) (w .write-lettered .ensures .1) (omega (arith, w .write-lettered .ensures .0)) (p .write-points .ensures .1) (p .write-points .ensures .0) (t .write-triangles .ensures .1)
 
 pub write-lines-spec : {M : Type 1} → statement M
 write-lines-spec =
@@ -71,6 +58,5 @@ write-lines-spec =
     write-lettered-requires
     write-points-requires
     write-triangles-requires
-    write-shells-requires
     same-length
     returns)

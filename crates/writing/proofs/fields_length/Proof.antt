@@ -4,7 +4,7 @@ use Prim.Native.Nat.{_+_, _*_, _-_, _≤_}
 use native.Mathlib.Omega.{arith}
 use lib.ListN.{length, getD, drop}
 use borrow.Author.Needs.{needs}
-use Rattle.grid.specs.Limits.{longestNumber}
+use Rattle.grid.specs.Limits.{wordDigits}
 use Rattle.lines.specs.Decimal.{decimal}
 use Rattle.lines.specs.Line.{longestField, fields}
 use Rattle.writing.proofs.Fields.{digits-most, fields-length, fields-end}
@@ -33,11 +33,11 @@ cast-digit-count c = omega (arith, c .shared-slice-known2 .given (c .before .bef
 digit-count-requires : tie.Need-digit-count-requires Inv-loop μ-loop
 digit-count-requires c κs = search needs
 
-short : (c : tie.After-digit-count Inv-loop μ-loop) → length (decimal (getD (c .before .before .before .before .before .args .numbers .now) (c .before .before .before .loop .i) 0)) ≤ longestNumber
+short : (c : tie.After-digit-count Inv-loop μ-loop) → length (decimal (getD (c .before .before .before .before .before .args .numbers .now) (c .before .before .before .loop .i) 0)) ≤ wordDigits
 short c =
     let l = c .before .before .before in
     let n = getD (l .before .before .args .numbers .now) (l .loop .i) 0 in
-    digits-most (longestNumber - 1) n (omega (arith, c .before .shared-slice-known2 .given (l .loop .i)))
+    digits-most (wordDigits - 1) n (omega (arith, c .before .shared-slice-known2 .given (l .loop .i)))
 
 add-sum : tie.Need-add-sum Inv-loop μ-loop
 add-sum c =

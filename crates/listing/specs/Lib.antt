@@ -1,2 +1,0 @@
--- Records handed on as numbers.
-pub mod Listing

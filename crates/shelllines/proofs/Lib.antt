@@ -1,0 +1,2 @@
+-- The line of a shell: its parts one after the other.
+pub mod ShellTexts
