@@ -7,6 +7,7 @@ use lib.ListN.{replicate}
 use Rattle.laws.specs.Range.{sumTo, joinTo, joinBox, countTo, keepTo, allTo, someTo}
 use Rattle.laws.specs.Values.{listTo}
 use Rattle.laws.specs.Sum.{sumOf}
+use Rattle.laws.specs.Least.{gathered}
 use Rattle.laws.specs.Bits.{bits, bit}
 use Rattle.laws.specs.Nearest.{nearest}
 use Rattle.laws.specs.Order.{isIn}
@@ -66,7 +67,7 @@ unfolding allTo someTo trianglesOf joinTo shareSide sides isIn sameArrow
 all-lower = refl
 
 pub centre : CentreFigure
-unfolding recordFrom pointsUnder trianglesUnder namesUnder keepTo joinTo anyOf sumOfℤ sixfold determinant diagonals listTo answerFor sumAt sumAfter addTriangle crossAt cross squared between answerFrom answerOf eq
+unfolding recordFrom gathered pointsUnder trianglesUnder namesUnder keepTo joinTo anyOf sumOfℤ sixfold determinant diagonals listTo answerFor sumAt sumAfter addTriangle crossAt cross squared between answerFrom answerOf eq
 centre =
     record {
       grid-edges = edges-are;
@@ -75,7 +76,8 @@ centre =
       eight = rw triangles-are;
       first = rw triangles-are;
       one-shell = rw (triangles-are, marks-are) (one-shell (trianglesOf octahedron) 5 all-lower);
-      volume = rw (triangles-are, marks-are, points-are);
+      listed = rw (triangles-are, marks-are, points-are);
       one-place = smoothed-are;
+      listed-there = rw (smoothed-are, triangles-are, marks-are);
       all-flat = rw (smoothed-are, triangles-are, marks-are);
     }

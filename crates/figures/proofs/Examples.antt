@@ -45,17 +45,46 @@ example-text = refl
 
 -- the output of the example, whole, and a shell of negative volume
 unfoldable pub exampleOutput : List ℕ
-exampleOutput = bytes "M\t3\t1\t1\nV\t0\t128\t0\t0\t1\nV\t1\t0\t128\t0\t1\nV\t2\t0\t0\t128\t1\nT\t0\t1\t2\nS\t0\t3\t1\t1\t2097152\n"
+exampleOutput = bytes "M\t3\t1\t1\nV\t0\t128\t0\t0\t1\nV\t1\t0\t128\t0\t1\nV\t2\t0\t0\t128\t1\nT\t0\t1\t2\nS\t0\t3\t1\t1\t2097152\t0\t128\t0\t128\t0\t128\n"
 
 abbrev pub exampleShell : Shell
-exampleShell = record { low = 0; points = 3; triangles = 1; touches = 1; volume = pos 2097152 }
+exampleShell =
+    record {
+      low = 0;
+      points = 3;
+      triangles = 1;
+      touches = 1;
+      volume = pos 2097152;
+      «least_x» = 0;
+      «greatest_x» = 128;
+      «least_y» = 0;
+      «greatest_y» = 128;
+      «least_z» = 0;
+      «greatest_z» = 128;
+    }
 
 pub example-output : meshText (128 ∷ 0 ∷ 0 ∷ 0 ∷ 128 ∷ 0 ∷ 0 ∷ 0 ∷ 128 ∷ []) (0 ∷ 1 ∷ 2 ∷ []) (1 ∷ 1 ∷ 1 ∷ []) (0 ∷ 1 ∷ 2 ∷ []) 1 (λ n. exampleShell) ≡ exampleOutput
 unfolding bytes exampleOutput decimalTo decimal signed endOf line fields lettered joinTo pointsText trianglesText shellText shellsText frontText meshText
 example-output = refl
 
-negative-shell : shellText (record { low = 4; points = 5; triangles = 6; touches = 0; volume = negsuc 99 }) ≡ bytes "S\t4\t5\t6\t0\t-100\n"
-unfolding bytes decimalTo decimal signed endOf fields shellText
+abbrev negativeShell : Shell
+negativeShell =
+    record {
+      low = 4;
+      points = 5;
+      triangles = 6;
+      touches = 0;
+      volume = negsuc 99;
+      «least_x» = 1;
+      «greatest_x» = 20;
+      «least_y» = 300;
+      «greatest_y» = 4000;
+      «least_z» = 16128;
+      «greatest_z» = 16128;
+    }
+
+negative-shell : shellText negativeShell ≡ bytes "S\t4\t5\t6\t0\t-100\t1\t20\t300\t4000\t16128\t16128\n"
+unfolding bytes decimalTo decimal signed endOf line fields shellText
 negative-shell = refl
 
 refusal-line : refusalText 12 5 ≡ bytes "R\t12\t5\n"

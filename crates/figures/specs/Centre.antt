@@ -13,6 +13,7 @@ use Rattle.grid.specs.Mesh.{mesh}
 use Rattle.mesh.specs.Mesh.{triangleCount, triangleAt, trianglesOf}
 use Rattle.rounds.specs.Round.{rounds}
 use Rattle.shellnumbers.specs.Numbering.{Numbering}
+use Rattle.records.specs.declared.Shell.{Shell}
 use Rattle.records.specs.Record.{recordOf}
 use Rattle.curvature.specs.declared.answers.Answer.the-variants.{Flat}
 use Rattle.curvature.specs.Curved.{answerFor}
@@ -44,7 +45,24 @@ centreTriangles = flat (mesh cubes centreSize (isAboveGrey centreGrey centreSamp
 unfoldable pub centreSmoothed : List ℕ
 centreSmoothed = rounds (trianglesOf centreTriangles) centreMarks 256 1 centrePoints
 
--- what document 01 says of it
+-- its record: this volume, and this box along each axis
+abbrev pub centreRecord : ℕ → ℕ → ℕ → Shell
+centreRecord volume least greatest =
+    record {
+      low = 0;
+      points = 6;
+      triangles = 8;
+      touches = 0;
+      volume = pos volume;
+      «least_x» = least;
+      «greatest_x» = greatest;
+      «least_y» = least;
+      «greatest_y» = greatest;
+      «least_z» = least;
+      «greatest_z» = greatest;
+    }
+
+-- what document 01 says of it, and of its box document 02 (i)
 pub record CentreFigure : Type 0 where
   pub grid-edges : centreEdges ≡ 14 ∷ 31 ∷ 36 ∷ 39 ∷ 40 ∷ 41 ∷ []
   pub places : centrePoints ≡ 256 ∷ 256 ∷ 128 ∷ 256 ∷ 128 ∷ 256 ∷ 128 ∷ 256 ∷ 256 ∷ 384 ∷ 256 ∷ 256 ∷ 256 ∷ 384 ∷ 256 ∷ 256 ∷ 256 ∷ 384 ∷ []
@@ -53,7 +71,8 @@ pub record CentreFigure : Type 0 where
   pub first : triangleAt centreTriangles 0 ≡ triangle 2 0 1
   -- every point has shell number 0, and there is one shell; it touches nothing
   pub one-shell : Numbering (trianglesOf centreTriangles) (length centreMarks) (replicate 6 0) 1
-  pub volume : recordOf centrePoints centreTriangles centreMarks (replicate 6 0) 0 ≡ record { low = 0; points = 6; triangles = 8; touches = 0; volume = pos 16777216 }
+  pub listed : recordOf centrePoints centreTriangles centreMarks (replicate 6 0) 0 ≡ centreRecord 16777216 128 384
   -- one round of weight 256
   pub one-place : centreSmoothed ≡ replicate 18 256
+  pub listed-there : recordOf centreSmoothed centreTriangles centreMarks (replicate 6 0) 0 ≡ centreRecord 0 256 256
   pub all-flat : listTo 6 (answerFor centreSmoothed centreTriangles centreMarks) ≡ replicate 6 Flat

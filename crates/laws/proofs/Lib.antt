@@ -7,6 +7,7 @@ pub mod Parted
 pub mod Rows
 pub mod Sums
 pub mod Lists
+pub mod Least
 pub mod Some
 pub mod Rearranged
 pub mod Binary

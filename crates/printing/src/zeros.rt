@@ -21,14 +21,14 @@ const LONGEST_SAMPLE: usize = NUMBER_DIGITS + 1;
 
 pub const MOST_INPUT: usize = 2 + LONGEST_SAMPLE * 6 + LONGEST_SAMPLE * (MOST_SMALL as usize) + 1;
 
-// A number of 32 bits and the byte that ends it; the longest line of three and of five behind its letter and tab; and that of a shell, four such numbers and a volume.
+// A number of 32 bits and the byte that ends it; the longest line of three and of five behind its letter and tab; and that of a shell, ten such numbers and a volume.
 const LONGEST_FIELD: usize = WORD_DIGITS + 1;
 
 const LINE_OF_THREE: usize = 2 + LONGEST_FIELD * 3;
 
 const LINE_OF_FIVE: usize = 2 + LONGEST_FIELD * 5;
 
-const LONGEST_SHELL: usize = 2 + LONGEST_FIELD * 4 + LONGEST_NUMBER + 1;
+const LONGEST_SHELL: usize = 2 + LONGEST_FIELD * 4 + (LONGEST_NUMBER + 1) + LONGEST_FIELD * 6;
 
 // The longest text of a mesh with so many points, triangles and shells, of which there are no more than points.
 pub const MOST_OUTPUT: usize = LINE_OF_THREE

@@ -2,7 +2,7 @@
 use mathlib.Core.Path.{_≡_, refl, sym, subst}
 use mathlib.Core.List.{List, [], _∷_, _++_}
 use mathlib.Core.Bool.{Bool, true, false, cond, _||_}
-use Prim.Native.Nat.{ℕ, suc, _+_, _*_, _<_, _≤_, _^_}
+use Prim.Native.Nat.{ℕ, suc, _+_, _*_, _<_, _≤_, _^_, min, max}
 use native.Mathlib.Nat.{mul-le-mul-right}
 use native.Mathlib.Omega.{arith}
 use lib.Dec.{eqb}
@@ -13,8 +13,10 @@ use mir.Val.{SFits}
 use Rattle.laws.specs.Range.{one-if}
 use Rattle.laws.specs.Sum.{sumOf}
 use Rattle.laws.specs.Signed.{sumOfℤ}
+use Rattle.laws.specs.Least.{gathered}
 use Rattle.laws.proofs.Differences.{sum-appendℤ, sum-differences, difference-fits}
 use Rattle.laws.proofs.Sums.{sum-bounded}
+use Rattle.laws.proofs.Least.{gathered-append}
 use Rattle.grid.specs.Limits.{mostPoints, mostTriangles, mostCoordinate}
 use Rattle.mesh.specs.Mesh.{triangleAt}
 use Rattle.mesh.specs.Check.{allWithin}
@@ -49,18 +51,28 @@ touch-more false true = refl
 touch-more false false = refl
 
 module _ (points triangles marks : List ℕ) where
-  pub with-point : (ps ks : List ℕ) (p : ℕ) → withPoint p (getD marks p 0) (recordFrom points triangles marks ps ks) ≡ recordFrom points triangles marks (ps ++ (p ∷ [])) ks
+  pub with-point : (ps ks : List ℕ) (p : ℕ) → withPoint p (placeOf points p) (getD marks p 0) (recordFrom points triangles marks ps ks) ≡ recordFrom points triangles marks (ps ++ (p ∷ [])) ks
   unfolding withPoint recordFrom
   with-point ps ks p =
-      rw
-      (first-append ps p, length-append ps (p ∷ []), any-append (λ q. eqb (getD marks q 0) 1) ps p, touch-more (anyOf (λ q. eqb (getD marks q 0) 1) ps) (eqb (getD marks p 0) 1))
+      rw (
+        first-append ps p,
+        length-append ps (p ∷ []),
+        any-append (λ q. eqb (getD marks q 0) 1) ps p,
+        touch-more (anyOf (λ q. eqb (getD marks q 0) 1) ps) (eqb (getD marks p 0) 1),
+        gathered-append min (λ q. placeOf points q .x) ps p,
+        gathered-append max (λ q. placeOf points q .x) ps p,
+        gathered-append min (λ q. placeOf points q .y) ps p,
+        gathered-append max (λ q. placeOf points q .y) ps p,
+        gathered-append min (λ q. placeOf points q .z) ps p,
+        gathered-append max (λ q. placeOf points q .z) ps p,
+      )
 
   pub with-triangle : (ps ks : List ℕ) (k : ℕ) → withTriangle (sixfold points (triangleAt triangles k)) (recordFrom points triangles marks ps ks) ≡ recordFrom points triangles marks ps (ks ++ (k ∷ []))
   unfolding withTriangle recordFrom
   with-triangle ps ks k = rw (length-append ks (k ∷ []), sum-appendℤ (λ i. sixfold points (triangleAt triangles i)) ks k)
 
   pub no-record : recordFrom points triangles marks [] [] ≡ none
-  unfolding recordFrom anyOf sumOfℤ
+  unfolding recordFrom anyOf sumOfℤ gathered
   no-record = refl
 
   -- ---- there is room

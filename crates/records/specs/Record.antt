@@ -7,6 +7,7 @@ use lib.IntN.{ℤ, pos, _-ℤ_}
 use lib.ListN.{length, getD}
 use Rattle.laws.specs.Range.{keepTo, one-if}
 use Rattle.laws.specs.Signed.{sumOfℤ}
+use Rattle.laws.specs.Least.{leastOf, greatestOf}
 use Rattle.laws.specs.Mesh.{Triangle}
 use Rattle.mesh.specs.Mesh.{triangleCount, triangleAt}
 use Rattle.mesh.specs.declared.Place.{Place}
@@ -44,7 +45,7 @@ unfoldable pub trianglesUnder : List ℕ → List ℕ → ℕ → List ℕ
 trianglesUnder triangles numbers n = keepTo (triangleCount triangles) (λ k. namesUnder numbers n (triangleAt triangles k))
 
 module _ (points triangles marks : List ℕ) where
-  -- the record of a shell that has these points, in rising order, and these triangles
+  -- the record of a shell that has these points, in rising order, and these triangles; its box is from the least to the greatest coordinate of its points
   unfoldable pub recordFrom : List ℕ → List ℕ → Shell
   recordFrom ps ks =
       record {
@@ -53,6 +54,12 @@ module _ (points triangles marks : List ℕ) where
         triangles = length ks;
         touches = one-if (anyOf (λ p. eqb (getD marks p 0) 1) ps);
         volume = sumOfℤ (λ k. sixfold points (triangleAt triangles k)) ks;
+        «least_x» = leastOf (λ p. placeOf points p .x) ps;
+        «greatest_x» = greatestOf (λ p. placeOf points p .x) ps;
+        «least_y» = leastOf (λ p. placeOf points p .y) ps;
+        «greatest_y» = greatestOf (λ p. placeOf points p .y) ps;
+        «least_z» = leastOf (λ p. placeOf points p .z) ps;
+        «greatest_z» = greatestOf (λ p. placeOf points p .z) ps;
       }
 
   -- record n, given the shell numbers of all points

@@ -2,14 +2,15 @@
 ghost use mathlib.Core.Path.{_≡_};
 ghost use mathlib.Core.Bool.{true, cond};
 ghost use lib.Dec.{eqb};
-ghost use Prim.Native.Nat.{_<_, _≤_};
+ghost use Prim.Native.Nat.{_+_, _*_, _<_, _≤_, min, max};
 ghost use lib.ListN.{length, getD};
 ghost use Rattle.grid.specs.Limits.{mostPoints};
 ghost use Rattle.mesh.specs.Mesh.{triangleCount, triangleAt};
+ghost use Rattle.mesh.specs.Place.{placeOf};
 ghost use Rattle.mesh.specs.Check.{trianglesFit};
 ghost use Rattle.shellnumbers.specs.Numbering.{numberOf};
 ghost use Rattle.records.specs.Record.{sixfold as sixfoldOf};
-ghost use Rattle.records.specs.Grown.{none, withPoint, withTriangle, PointFits, TriangleFits, MeshFits};
+ghost use Rattle.records.specs.Grown.{none, widened, withPoint, withTriangle, PointFits, TriangleFits, MeshFits};
 use sets::wide;
 
 mod volume;
@@ -21,6 +22,12 @@ pub struct Shell {
     pub triangles: u32,
     pub touches: u32,
     pub volume: i64,
+    pub least_x: u32,
+    pub greatest_x: u32,
+    pub least_y: u32,
+    pub greatest_y: u32,
+    pub least_z: u32,
+    pub greatest_z: u32,
 }
 
 // A record with nothing in it.
@@ -33,6 +40,12 @@ pub fn blank() -> Shell
         triangles: 0,
         touches: 0,
         volume: 0,
+        least_x: 0,
+        greatest_x: 0,
+        least_y: 0,
+        greatest_y: 0,
+        least_z: 0,
+        greatest_z: 0,
     }
 }
 
@@ -59,17 +72,44 @@ fn touched(mark: u8, touches: u32) -> u32
     if mark == 1 { 1 } else { touches }
 }
 
-// One point more, by value.
-pub fn with_point(s: Shell, marks: &[u8], i: usize) -> Shell
-    requires { ⌜ PointFits s × (i < length (now marks)) × (length (now marks) ≤ mostPoints) ⌝ }
-    ensures { λ r. ⌜ r ≡ withPoint i (getD (now (marks .entry)) i 0) s ⌝ }
+// The least coordinate along an axis, with one point more, which stands at x: the first point sets it.
+fn least(points: u32, had: u32, x: u32) -> u32
+    ensures { λ r. ⌜ r ≡ widened points min had x ⌝ }
 {
+    if points == 0 {
+        return x;
+    }
+    if x < had { x } else { had }
+}
+
+// The greatest, likewise.
+fn greatest(points: u32, had: u32, x: u32) -> u32
+    ensures { λ r. ⌜ r ≡ widened points max had x ⌝ }
+{
+    if points == 0 {
+        return x;
+    }
+    if had < x { x } else { had }
+}
+
+// One point more, by value.
+pub fn with_point(s: Shell, points: &[u32], marks: &[u8], i: usize) -> Shell
+    requires { ⌜ PointFits s × (3 * i + 2 < length (now points)) × (i < length (now marks)) × (length (now marks) ≤ mostPoints) ⌝ }
+    ensures { λ r. ⌜ r ≡ withPoint i (placeOf (now (points .entry)) i) (getD (now (marks .entry)) i 0) s ⌝ }
+{
+    let at = mesh::place_of(points, i);
     Shell {
         low: lowest(s.points, s.low, i),
         points: s.points + 1,
         triangles: s.triangles,
         touches: touched(marks[i], s.touches),
         volume: s.volume,
+        least_x: least(s.points, s.least_x, at.x),
+        greatest_x: greatest(s.points, s.greatest_x, at.x),
+        least_y: least(s.points, s.least_y, at.y),
+        greatest_y: greatest(s.points, s.greatest_y, at.y),
+        least_z: least(s.points, s.least_z, at.z),
+        greatest_z: greatest(s.points, s.greatest_z, at.z),
     }
 }
 
@@ -85,6 +125,12 @@ pub fn with_triangle(s: Shell, points: &[u32], triangles: &[u32], k: usize) -> S
         triangles: s.triangles + 1,
         touches: s.touches,
         volume,
+        least_x: s.least_x,
+        greatest_x: s.greatest_x,
+        least_y: s.least_y,
+        greatest_y: s.greatest_y,
+        least_z: s.least_z,
+        greatest_z: s.greatest_z,
     }
 }
 

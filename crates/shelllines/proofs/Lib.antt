@@ -1,2 +1,3 @@
--- The line of a shell: its parts one after the other.
+-- Two shells' lines, computed; the line of a shell, its parts one after the other.
+pub mod TwoShells
 pub mod ShellTexts

@@ -3,7 +3,7 @@ use mathlib.Core.List.{List, [], _∷_, _++_}
 use Prim.Native.Nat.{ℕ, _+_, _*_}
 use Rattle.laws.specs.Range.{joinTo}
 use Rattle.lines.specs.Decimal.{signed}
-use Rattle.lines.specs.Line.{tab, lineFeed, fields, longestField, longestSigned}
+use Rattle.lines.specs.Line.{tab, line, fields, longestField, longestSigned}
 use Rattle.records.specs.declared.Shell.{Shell}
 
 -- the letter `S`
@@ -14,13 +14,17 @@ letterS = 83
 abbrev pub countsOf : Shell → List ℕ
 countsOf s = s .low ∷ s .points ∷ s .triangles ∷ s .touches ∷ []
 
--- `S`: lowest point, points, triangles, touches, sixfold volume
-unfoldable pub shellText : Shell → List ℕ
-shellText s = letterS ∷ tab ∷ (fields 1 (countsOf s) ++ (signed (s .volume) ++ lineFeed ∷ []))
+-- the box behind it, in the order x, y, z
+abbrev pub boxOf : Shell → List ℕ
+boxOf s = s .«least_x» ∷ s .«greatest_x» ∷ s .«least_y» ∷ s .«greatest_y» ∷ s .«least_z» ∷ s .«greatest_z» ∷ []
 
--- so many bytes hold any shell's line: letter and tab, four numbers and a volume
+-- `S`: lowest point, points, triangles, touches, sixfold volume, least x, greatest x, least y, greatest y, least z, greatest z
+unfoldable pub shellText : Shell → List ℕ
+shellText s = letterS ∷ tab ∷ (fields 7 (countsOf s) ++ (signed (s .volume) ++ tab ∷ line (boxOf s)))
+
+-- so many bytes hold any shell's line: letter and tab, four numbers, a volume and six numbers
 abbrev pub longestShell : ℕ
-longestShell = 2 + longestField * 4 + longestSigned
+longestShell = 2 + longestField * 4 + longestSigned + longestField * 6
 
 -- the lines of the first shells, of which record n is this
 unfoldable pub shellsText : ℕ → (ℕ → Shell) → List ℕ

@@ -5,7 +5,7 @@ ghost use lib.ListN.{length, getD};
 ghost use lib.Seq.{sets};
 ghost use Rattle.grid.specs.Limits.{mostPoints};
 ghost use Rattle.records.specs.Grown.{none};
-ghost use Rattle.shelllines.specs.ShellLines.{countsOf, shellText, shellsText, longestShell};
+ghost use Rattle.shelllines.specs.ShellLines.{countsOf, boxOf, shellText, shellsText, longestShell};
 use records::Shell;
 use writing::fields_length;
 use writing::signed_length;
@@ -19,12 +19,27 @@ fn counts_of(s: Shell) -> [u32; 4]
     [s.low, s.points, s.triangles, s.touches]
 }
 
+// The box behind it, in the order x, y, z.
+fn box_of(s: Shell) -> [u32; 6]
+    ensures { λ r. ⌜ r ≡ boxOf s ⌝ }
+{
+    [
+        s.least_x,
+        s.greatest_x,
+        s.least_y,
+        s.greatest_y,
+        s.least_z,
+        s.greatest_z,
+    ]
+}
+
 // How many bytes a shell's line takes.
 fn shell_length(s: Shell) -> usize
     ensures { λ r. ⌜ (r ≡ length (shellText s)) × (r ≤ longestShell) ⌝ }
 {
     let counts = counts_of(s);
-    2 + fields_length(&counts) + signed_length(s.volume) + 1
+    let sides = box_of(s);
+    2 + fields_length(&counts) + signed_length(s.volume) + 1 + fields_length(&sides)
 }
 
 // Writes a shell's line, and answers the place behind it.
@@ -35,8 +50,10 @@ fn write_shell(s: Shell, room: &mut [u8], at: usize) -> usize
     room[at] = b'S';
     room[at + 1] = b'\t';
     let counts = counts_of(s);
-    let behind = write_fields(&counts, 1, room, at + 2);
-    write_signed(s.volume, b'\n', room, behind)
+    let behind_counts = write_fields(&counts, 7, room, at + 2);
+    let behind_volume = write_signed(s.volume, b'\t', room, behind_counts);
+    let sides = box_of(s);
+    write_fields(&sides, 0, room, behind_volume)
 }
 
 // How many bytes the lines of the first shells take.

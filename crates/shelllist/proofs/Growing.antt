@@ -5,6 +5,7 @@ use Prim.Native.Nat.{ℕ, zero, suc, _+_}
 use native.Mathlib.Numerals.{add-one}
 use lib.ListN.{length, getD, set, length-set}
 use Rattle.mesh.specs.Mesh.{triangleAt}
+use Rattle.mesh.specs.Place.{placeOf}
 use Rattle.records.specs.declared.Shell.{Shell}
 use Rattle.shellnumbers.specs.Numbering.{numberOf}
 use Rattle.records.specs.Record.{sixfold}
@@ -18,15 +19,15 @@ length-emptied (suc n) ys = length-set (emptied n ys) n none ∙ length-emptied 
 pub emptied-next : (n : ℕ) (ys : List Shell) → set (emptied n ys) n none ≡ emptied (n + 1) ys
 emptied-next n ys = ap (λ m. emptied m ys) (sym (add-one n))
 
-module _ (marks numbers : List ℕ) (ys : List Shell) where
-  pub length-points : (j : ℕ) → length (pointsAdded marks numbers j ys) ≡ length ys
+module _ (points marks numbers : List ℕ) (ys : List Shell) where
+  pub length-points : (j : ℕ) → length (pointsAdded points marks numbers j ys) ≡ length ys
   length-points zero = refl
   length-points (suc j) =
-      length-set (pointsAdded marks numbers j ys) (numberOf numbers j) (withPoint j (getD marks j 0) (getD (pointsAdded marks numbers j ys) (numberOf numbers j) none))
+      length-set (pointsAdded points marks numbers j ys) (numberOf numbers j) (withPoint j (placeOf points j) (getD marks j 0) (getD (pointsAdded points marks numbers j ys) (numberOf numbers j) none))
       ∙ length-points j
 
-  pub points-next : (j : ℕ) → changed (withPoint j (getD marks j 0)) (numberOf numbers j) (pointsAdded marks numbers j ys) ≡ pointsAdded marks numbers (j + 1) ys
-  points-next j = ap (λ m. pointsAdded marks numbers m ys) (sym (add-one j))
+  pub points-next : (j : ℕ) → changed (withPoint j (placeOf points j) (getD marks j 0)) (numberOf numbers j) (pointsAdded points marks numbers j ys) ≡ pointsAdded points marks numbers (j + 1) ys
+  points-next j = ap (λ m. pointsAdded points marks numbers m ys) (sym (add-one j))
 
 module _ (points triangles numbers : List ℕ) (ys : List Shell) where
   pub length-triangles : (k : ℕ) → length (trianglesAdded points triangles numbers k ys) ≡ length ys

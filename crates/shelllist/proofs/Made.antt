@@ -18,6 +18,7 @@ use Rattle.laws.proofs.Rooms.{length-laid}
 use Rattle.laws.proofs.Values.{length-list, laid-none, laid-more, laid-at, laid-change, list-cong}
 use Rattle.mesh.specs.Mesh.{triangleCount, triangleAt, trianglesOf}
 use Rattle.mesh.specs.Check.{trianglesFit}
+use Rattle.mesh.specs.Place.{placeOf}
 use Rattle.records.specs.declared.Shell.{Shell}
 use Rattle.shellnumbers.specs.Numbering.{numberOf, Numbering}
 use Rattle.records.specs.Record.{sixfold, pointsUnder, namesUnder, trianglesUnder, recordFrom, recordOf}
@@ -83,16 +84,16 @@ module _ (points triangles marks numbers : List ℕ) (shells : ℕ) (room : List
       ∙ laid-change shells n (partly j k) (partly j′ k′) room l others
 
   module _ (below : (p : ℕ) → p < length numbers → numberOf numbers p < shells) where
-    grow-points : (j : ℕ) → j ≤ length numbers → pointsAdded marks numbers j (records 0 0) ≡ records j 0
+    grow-points : (j : ℕ) → j ≤ length numbers → pointsAdded points marks numbers j (records 0 0) ≡ records j 0
     grow-points zero l = refl
     grow-points (suc j) l =
-        ap (changed (withPoint j (getD marks j 0)) n) (grow-points j (omega arith))
-        ∙ change (withPoint j (getD marks j 0)) n j 0 (suc j) 0 (below j (omega arith)) here others
+        ap (changed (withPoint j (placeOf points j) (getD marks j 0)) n) (grow-points j (omega arith))
+        ∙ change (withPoint j (placeOf points j) (getD marks j 0)) n j 0 (suc j) 0 (below j (omega arith)) here others
       where
         n : ℕ
         n = numberOf numbers j
 
-        here : withPoint j (getD marks j 0) (partly j 0 n) ≡ partly (suc j) 0 n
+        here : withPoint j (placeOf points j) (getD marks j 0) (partly j 0 n) ≡ partly (suc j) 0 n
         here =
             with-point points triangles marks (keepTo j (hasPoint n)) (keepTo 0 (hasTriangle n)) j
             ∙ ap (λ ps. recordFrom points triangles marks ps (keepTo 0 (hasTriangle n))) (sym (keep-yes j (hasPoint n) (eq-eqb n n refl)))
@@ -134,23 +135,24 @@ module _ (points triangles marks found : List ℕ) (shells : ℕ) (room : List S
   first : (k : ℕ) → k < triangleCount triangles → triangleAt triangles k .one < length found
   first k l = corners triangles (length found) k fit l .first
 
-  points-to : (j : ℕ) → j ≤ length found → pointsAdded marks found j (emptied shells room) ≡ records points triangles marks found shells room enough j 0
+  points-to : (j : ℕ) → j ≤ length found → pointsAdded points marks found j (emptied shells room) ≡ records points triangles marks found shells room enough j 0
   points-to j l =
-      ap (pointsAdded marks found j) (start points triangles marks found shells room enough) ∙ grow-points points triangles marks found shells room enough below j l
+      ap (pointsAdded points marks found j) (start points triangles marks found shells room enough) ∙ grow-points points triangles marks found shells room enough below j l
 
   triangles-to : (k : ℕ) → k ≤ triangleCount triangles
-      → trianglesAdded points triangles found k (pointsAdded marks found (length found) (emptied shells room)) ≡ records points triangles marks found shells room enough (length found) k
+      → trianglesAdded points triangles found k (pointsAdded points marks found (length found) (emptied shells room)) ≡ records points triangles marks found shells room enough (length found) k
   triangles-to k l =
       ap (trianglesAdded points triangles found k) (points-to (length found) (omega arith))
       ∙ grow-triangles points triangles marks found shells room enough below first (length found) k l
 
-  point-turn : (j : ℕ) → j < length found → PointTurn marks found (pointsAdded marks found j (emptied shells room)) j
+  point-turn : (j : ℕ) → j < length found → PointTurn points marks found (pointsAdded points marks found j (emptied shells room)) j
   point-turn j l =
       let e = points-to j (omega arith) in
       let n = numberOf found j in
       let has = hasPoint points triangles marks found shells room enough n in
       record {
         small = l;
+        placed = omega (arith, N .long, ok .mesh .threes);
         marked = omega (arith, N .long);
         few = ok .mesh .few;
         numbered = omega (arith, below j l, ap length e, long points triangles marks found shells room enough j 0);
@@ -160,7 +162,7 @@ module _ (points triangles marks found : List ℕ) (shells : ℕ) (room : List S
       }
 
   triangle-turn : (k : ℕ) → k < triangleCount triangles
-      → TriangleTurn points triangles found (trianglesAdded points triangles found k (pointsAdded marks found (length found) (emptied shells room))) k
+      → TriangleTurn points triangles found (trianglesAdded points triangles found k (pointsAdded points marks found (length found) (emptied shells room))) k
   triangle-turn k l =
       let e = triangles-to k (omega arith) in
       let n = numberOf found (triangleAt triangles k .one) in

@@ -3,6 +3,7 @@ ghost use mathlib.Core.Path.{_≡_};
 ghost use Prim.Native.Nat.{_<_, _≤_};
 ghost use lib.ListN.{length, getD, set};
 ghost use Rattle.mesh.specs.Mesh.{triangleCount, triangleAt};
+ghost use Rattle.mesh.specs.Place.{placeOf};
 ghost use Rattle.shellnumbers.specs.Numbering.{numberOf};
 ghost use Rattle.shellnumbers.specs.Lists.{left};
 ghost use Rattle.records.specs.Record.{sixfold as sixfoldOf};
@@ -39,24 +40,26 @@ fn empty(records: &mut [Shell], count: usize)
 }
 
 // Adds point i to its record.
-fn add_point(records: &mut [Shell], numbers: &[u32], marks: &[u8], i: usize)
-    requires { ⌜ PointTurn (now marks) (now numbers) (now records) i ⌝ }
-    ensures { λ _. ⌜ now (records .exit) ≡ changed (withPoint i (getD (now (marks .entry)) i 0)) (numberOf (now (numbers .entry)) i) (now (records .entry)) ⌝ }
+fn add_point(records: &mut [Shell], numbers: &[u32], points: &[u32], marks: &[u8], i: usize)
+    requires { ⌜ PointTurn (now points) (now marks) (now numbers) (now records) i ⌝ }
+    ensures { λ _.
+        let grown = withPoint i (placeOf (now (points .entry)) i) (getD (now (marks .entry)) i 0) in
+        ⌜ now (records .exit) ≡ changed grown (numberOf (now (numbers .entry)) i) (now (records .entry)) ⌝ }
 {
     let n = number_at(numbers, i);
     let s = records[n];
-    records[n] = with_point(s, marks, i);
+    records[n] = with_point(s, points, marks, i);
 }
 
 // Adds all points.
-fn add_points(records: &mut [Shell], numbers: &[u32], marks: &[u8])
-    requires { ⌜ PointsFit (now marks) (now numbers) (now records) ⌝ }
-    ensures { λ _. ⌜ now (records .exit) ≡ pointsAdded (now (marks .entry)) (now (numbers .entry)) (length (now (numbers .entry))) (now (records .entry)) ⌝ }
+fn add_points(records: &mut [Shell], numbers: &[u32], points: &[u32], marks: &[u8])
+    requires { ⌜ PointsFit (now points) (now marks) (now numbers) (now records) ⌝ }
+    ensures { λ _. ⌜ now (records .exit) ≡ pointsAdded (now (points .entry)) (now (marks .entry)) (now (numbers .entry)) (length (now (numbers .entry))) (now (records .entry)) ⌝ }
 {
     let count = numbers.len();
     let mut i = 0;
     while i < count {
-        add_point(records, numbers, marks, i);
+        add_point(records, numbers, points, marks, i);
         i += 1;
     }
 }
@@ -110,7 +113,7 @@ fn fill(
     ensures { λ _. ⌜ now (records .exit) ≡ recordsFilled (now (points .entry)) (now (triangles .entry)) (now (marks .entry)) (now (numbers .entry)) shells (now (records .entry)) ⌝ }
 {
     empty(records, shells);
-    add_points(records, numbers, marks);
+    add_points(records, numbers, points, marks);
     let count = triangle_count(triangles);
     add_triangles(records, numbers, points, triangles, count);
 }

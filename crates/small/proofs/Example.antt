@@ -10,6 +10,7 @@ use borrow.Author.Tests.{leb-true}
 use Rattle.laws.specs.Range.{sumTo, joinTo, joinBox, countTo, keepTo, allTo, someTo}
 use Rattle.laws.specs.Values.{listTo}
 use Rattle.laws.specs.Sum.{allOf}
+use Rattle.laws.specs.Least.{gathered}
 use Rattle.laws.specs.Bits.{bits, bit}
 use Rattle.laws.specs.Nearest.{nearest}
 use Rattle.laws.specs.Order.{isIn}
@@ -64,7 +65,7 @@ mesh-is = refl
 
 -- one shell, and the text
 corner-prints : Prints corner (0 ∷ 1 ∷ 2 ∷ []) exampleOutput
-unfolding allTo someTo trianglesOf joinTo shareSide sides isIn sameArrow listTo meshText shellsText recordFrom pointsUnder trianglesUnder namesUnder keepTo anyOf sumOfℤ sixfold determinant diagonals
+unfolding allTo someTo trianglesOf joinTo shareSide sides isIn sameArrow listTo meshText shellsText recordFrom gathered pointsUnder trianglesUnder namesUnder keepTo anyOf sumOfℤ sixfold determinant diagonals
 corner-prints =
     record {
       numbers = replicate 3 0;

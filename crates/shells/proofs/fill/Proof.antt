@@ -62,7 +62,7 @@ module _ {M : Type 1} (𝓤 : URA M) (H : Heap 𝓤) (A : Atoms 𝓤) (W : Given
   one = emptied shells ys
 
   abbrev two : List Shell
-  two = pointsAdded marks numbers (length numbers) one
+  two = pointsAdded points marks numbers (length numbers) one
 
   abbrev three : List Shell
   three = trianglesAdded points triangles numbers (triangleCount triangles) two
@@ -71,7 +71,7 @@ module _ {M : Type 1} (𝓤 : URA M) (H : Heap 𝓤) (A : Atoms 𝓤) (W : Given
   long-one = length-emptied shells ys
 
   long-two : length two ≡ length ys
-  long-two = length-points marks numbers one (length numbers) ∙ long-one
+  long-two = length-points points marks numbers one (length numbers) ∙ long-one
 
   long-three : length three ≡ length ys
   long-three = length-triangles points triangles numbers two (triangleCount triangles) ∙ long-two
@@ -143,23 +143,23 @@ module _ {M : Type 1} (𝓤 : URA M) (H : Heap 𝓤) (A : Atoms 𝓤) (W : Given
 
   -- ---- the call of `add_points`: what its triple binds outside, and that the caller has what it asks
   module _ (ν : ℕ) (δ : GName) where
-    abbrev args1 : RefT (List Shell) × (RefT (List ℕ) × (RefT (List ℕ) × Unit {0}))
-    args1 = (refOf E b-ys o-ys δ one, (x-numbers, (x-marks, tt)))
+    abbrev args1 : RefT (List Shell) × (RefT (List ℕ) × (RefT (List ℕ) × (RefT (List ℕ) × Unit {0})))
+    args1 = (refOf E b-ys o-ys δ one, (x-numbers, (x-points, (x-marks, tt))))
 
-    abbrev lfts1 : Lft × (Lft × (Lft × Unit {0}))
-    lfts1 = (ν ∷ [], (κ1, (κ4, tt)))
+    abbrev lfts1 : Lft × (Lft × (Lft × (Lft × Unit {0})))
+    lfts1 = (ν ∷ [], (κ1, (κ2, (κ4, tt))))
 
-    abbrev spelled1 : List Val × (List Val × (List Val × Unit {0}))
-    spelled1 = (v-ys ∷ [], (v-numbers ∷ [], (v-marks ∷ [], tt)))
+    abbrev spelled1 : List Val × (List Val × (List Val × (List Val × Unit {0})))
+    spelled1 = (v-ys ∷ [], (v-numbers ∷ [], (v-points ∷ [], (v-marks ∷ [], tt))))
 
     abbrev to1 : AddPoints 𝓤 H A mem run .Ghost
-    to1 = ((lfts1, (fullShare, (q1, (q4, tt))), tt, args1, spelled1), tt)
+    to1 = ((lfts1, (fullShare, (q1, (q2, (q4, tt)))), tt, args1, spelled1), tt)
 
     abbrev Owned1 : Fml
-    Owned1 = owns (MutSlice (named 0) (ν ∷ []) R ∷ ShrSlice (named 1) κ1 u32 ∷ ShrSlice (named 2) κ4 u8 ∷ []) args1 spelled1
+    Owned1 = owns (MutSlice (named 0) (ν ∷ []) R ∷ ShrSlice (named 1) κ1 u32 ∷ ShrSlice (named 2) κ2 u32 ∷ ShrSlice (named 3) κ4 u8 ∷ []) args1 spelled1
 
-    asked1 : ent 𝓤 (⋆ 𝓤 H A ((‵ (flft (ν ∷ []) fullShare) ⊛ ‵ (flft κ1 q1) ⊛ ‵ (flft κ4 q4) ⊛ ‵ ftrue) ∷ ‵ Owned1 ∷ [])) (AddPoints 𝓤 H A mem run .pre to1)
-    asked1 = qed W ((‵ (flft (ν ∷ []) fullShare) ⊛ ‵ (flft κ1 q1) ⊛ ‵ (flft κ4 q4) ⊛ ‵ ftrue) ∷ ‵ Owned1 ∷ []) ∵ says ! (pre .points-fit) $ frame ! $ done !
+    asked1 : ent 𝓤 (⋆ 𝓤 H A ((‵ (flft (ν ∷ []) fullShare) ⊛ ‵ (flft κ1 q1) ⊛ ‵ (flft κ2 q2) ⊛ ‵ (flft κ4 q4) ⊛ ‵ ftrue) ∷ ‵ Owned1 ∷ [])) (AddPoints 𝓤 H A mem run .pre to1)
+    asked1 = qed W ((‵ (flft (ν ∷ []) fullShare) ⊛ ‵ (flft κ1 q1) ⊛ ‵ (flft κ2 q2) ⊛ ‵ (flft κ4 q4) ⊛ ‵ ftrue) ∷ ‵ Owned1 ∷ []) ∵ says ! (pre .points-fit) $ frame ! $ done !
 
   -- ---- the call of `triangle_count`: what its triple binds outside, and that the caller has what it asks
   abbrev args2 : RefT (List ℕ) × Unit {0}
@@ -226,13 +226,13 @@ module _ {M : Type 1} (𝓤 : URA M) (H : Heap 𝓤) (A : Atoms 𝓤) (W : Given
         assigns ! (addr ! (from ! (fld ! refl (hop ! (look-in ! 36 (sub ! 0 refl (whole !))) (stop !))))) (from ! (stop !)) (init ! 16 refl (tt, tt)) $
         assigns ! (agg ! (and-then ! (load ! (from ! (stop !)) (look ! 16 refl)) (and-then ! (load ! (from ! (fld ! refl (stop !))) (look-in ! 36 (sub ! 1 refl (whole !)))) (no-more !)))) (from ! (stop !)) (init ! 14 refl (tt, (tt, (record { fits = room-ys .0 }, tt)))) $
         move ! (0 ∷ 5 ∷ []) $ lends ! E tt (length ys) one b-ys o-ys long-one room-ys (λ ν δ.
-        move ! (6 ∷ []) $ use1 W (‵ O-numbers ⊛ ‵ O-numbers) (shr-slice-copy 𝓤 H A W (named 1) κ1 u32 .twice x-numbers _) $ split ! $ move ! (10 ∷ []) $ use1 W (‵ O-marks ⊛ ‵ O-marks) (shr-slice-copy 𝓤 H A W (named 4) κ4 u8 .twice x-marks _) $ split ! $ nothing ! $ move ! (16 ∷ 0 ∷ []) $ join ! $ move ! (13 ∷ 0 ∷ []) $ join ! $ move ! (5 ∷ 0 ∷ []) $ join ! $ nothing ! $ move ! (2 ∷ 0 ∷ []) $ fjoin ! $ move ! (3 ∷ 0 ∷ []) $ fjoin ! $ move ! (4 ∷ 0 ∷ []) $ fjoin ! $ move ! (1 ∷ 0 ∷ []) $
+        move ! (6 ∷ []) $ use1 W (‵ O-numbers ⊛ ‵ O-numbers) (shr-slice-copy 𝓤 H A W (named 1) κ1 u32 .twice x-numbers _) $ split ! $ move ! (8 ∷ []) $ use1 W (‵ O-points ⊛ ‵ O-points) (shr-slice-copy 𝓤 H A W (named 2) κ2 u32 .twice x-points _) $ split ! $ move ! (11 ∷ []) $ use1 W (‵ O-marks ⊛ ‵ O-marks) (shr-slice-copy 𝓤 H A W (named 4) κ4 u8 .twice x-marks _) $ split ! $ nothing ! $ move ! (17 ∷ 0 ∷ []) $ join ! $ move ! (15 ∷ 0 ∷ []) $ join ! $ move ! (14 ∷ 0 ∷ []) $ join ! $ move ! (7 ∷ 0 ∷ []) $ join ! $ nothing ! $ move ! (2 ∷ 0 ∷ []) $ fjoin ! $ move ! (3 ∷ 0 ∷ []) $ fjoin ! $ move ! (4 ∷ 0 ∷ []) $ fjoin ! $ move ! (5 ∷ 0 ∷ []) $ fjoin ! $ move ! (1 ∷ 0 ∷ []) $
         use2 W (raw (AddPoints 𝓤 H A mem run .pre (to1 ν δ))) (asked1 ν δ) $
-        calls-at ! fm (AddPoints 𝓤 H A mem run) known-add-points (to1 ν δ) (and-then ! (load ! (from ! (stop !)) (look ! 15 refl)) (and-then ! (load ! (from ! (stop !)) (look ! 33 refl)) (and-then ! (load ! (from ! (stop !)) (look ! 27 refl)) (no-more !)))) (λ w1.
-        use1 W (later (some (λ (h : Unit {0}). ((‵ (flft (ν ∷ []) fullShare) ⊛ ‵ (flft κ1 q1) ⊛ ‵ (flft κ4 q4) ⊛ ‵ ftrue) ⊛ ‵ (unit .own h (w1 ∷ []))) ⊛ raw (ensured 𝓤 H A add-points.ended (add-points.clauses 𝓤 H A mem run) (lfts1 ν δ) (args1 ν δ) tt h)))) (id⊢ 𝓤 _) $ await ! tt $ pick ! (λ r1.
-        split ! $ move ! (1 ∷ []) $ use1 W (some (λ (us : List Shell × (Unit {0} × (Unit {0} × Unit {0}))). ‵ (lasts add-points.ended (lfts1 ν δ) (args1 ν δ) us) ⊛ raw (fact 𝓤 ((us .0) ≡ two)))) (id⊢ 𝓤 _) $ pick ! (λ zs1.
+        calls-at ! fm (AddPoints 𝓤 H A mem run) known-add-points (to1 ν δ) (and-then ! (load ! (from ! (stop !)) (look ! 14 refl)) (and-then ! (load ! (from ! (stop !)) (look ! 32 refl)) (and-then ! (load ! (from ! (stop !)) (look ! 30 refl)) (and-then ! (load ! (from ! (stop !)) (look ! 26 refl)) (no-more !))))) (λ w1.
+        use1 W (later (some (λ (h : Unit {0}). ((‵ (flft (ν ∷ []) fullShare) ⊛ ‵ (flft κ1 q1) ⊛ ‵ (flft κ2 q2) ⊛ ‵ (flft κ4 q4) ⊛ ‵ ftrue) ⊛ ‵ (unit .own h (w1 ∷ []))) ⊛ raw (ensured 𝓤 H A add-points.ended (add-points.clauses 𝓤 H A mem run) (lfts1 ν δ) (args1 ν δ) tt h)))) (id⊢ 𝓤 _) $ await ! tt $ pick ! (λ r1.
+        split ! $ move ! (1 ∷ []) $ use1 W (some (λ (us : List Shell × (Unit {0} × (Unit {0} × (Unit {0} × Unit {0})))). ‵ (lasts add-points.ended (lfts1 ν δ) (args1 ν δ) us) ⊛ raw (fact 𝓤 ((us .0) ≡ two)))) (id⊢ 𝓤 _) $ pick ! (λ zs1.
         split ! $ move ! (1 ∷ []) $ heard ! ((zs1 .0) ≡ two) (λ e1. fsplit ! $ fsplit ! $ move ! (1 ∷ []) $ feqL ! (λ l-ys1. move ! (1 ∷ []) $ drop ! $ move ! (1 ∷ []) $ split ! $ move ! (1 ∷ []) $ peeks ! unit (Is unit) (shows 𝓤 H A unit) r1 (w1 ∷ []) (λ is-r1.
-        land ! (from ! (stop !)) (store ! 25 refl (nothing-lawful 𝓤 H A W .typed r1 _ is-r1 .0)) $ drop ! $ split ! $ move ! (1 ∷ []) $ split ! $ move ! (1 ∷ []) $ split ! $ move ! (1 ∷ []) $ drop ! $ move ! (2 ∷ 6 ∷ 7 ∷ 8 ∷ 9 ∷ 3 ∷ []) $ comes ! E tt (length ys) one (zs1 .0) b-ys o-ys long-one room-ys l-ys1 $ move ! (0 ∷ 5 ∷ 6 ∷ 7 ∷ 4 ∷ 1 ∷ 3 ∷ 8 ∷ 9 ∷ 2 ∷ []) $
+        land ! (from ! (stop !)) (store ! 24 refl (nothing-lawful 𝓤 H A W .typed r1 _ is-r1 .0)) $ drop ! $ split ! $ move ! (1 ∷ []) $ split ! $ move ! (1 ∷ []) $ split ! $ move ! (1 ∷ []) $ split ! $ move ! (1 ∷ []) $ drop ! $ move ! (3 ∷ 8 ∷ 9 ∷ 10 ∷ 11 ∷ 4 ∷ []) $ comes ! E tt (length ys) one (zs1 .0) b-ys o-ys long-one room-ys l-ys1 $ move ! (0 ∷ 7 ∷ 6 ∷ 8 ∷ 5 ∷ 1 ∷ 4 ∷ 3 ∷ 9 ∷ 2 ∷ []) $
         -- [ys; numbers; points; triangles; marks; tok0; tok1; tok2; tok3; tok4; _14; _13; _12; _11; _10; _9; _8; _7; _6; _5; _4; _3; _2; _1; _0]
         rewrite ! 0 (λ (us : List Shell). ‵ (Mut κ0 γ-ys b-ys o-ys (length ys) us)) e1 refl $
         move ! (3 ∷ []) $ use1 W (‵ O-triangles ⊛ ‵ O-triangles) (shr-slice-copy 𝓤 H A W (named 3) κ3 u32 .twice x-triangles _) $ split ! $ nothing ! $ move ! (10 ∷ 0 ∷ []) $ join ! $ nothing ! $ move ! (2 ∷ 0 ∷ []) $ fjoin ! $ move ! (1 ∷ 0 ∷ []) $
