@@ -1,9 +1,10 @@
-//! A plain reading of document 01 ("Requirements of the build and its rules").
+//! A plain reading of document 01 ("Requirements of the build and its rules")
+//! and of request (i) of document 02 ("Hear the box of a void").
 //!
-//! The crate was written from document 01 alone. It is a second program to
+//! The crate was written from these documents alone. It is a second program to
 //! compare a proved library with, bit for bit: same answers, same content of
 //! every lent room, same refusal numbers. It prefers the shortest way from a
-//! sentence of the document to code over speed. Doc comments quote the sentence
+//! sentence of a document to code over speed. Doc comments quote the sentence
 //! that the code below them follows.
 //!
 //! Every call takes its rooms as slices, writes the whole promised content into

@@ -5,7 +5,7 @@ use std::collections::VecDeque;
 use crate::mesh;
 
 /// The record of one shell.
-#[derive(Clone, Copy, PartialEq, Eq, Debug)]
+#[derive(Clone, Copy, PartialEq, Eq, Debug, Default)]
 pub struct Shell {
     /// Its lowest point.
     pub low: u32,
@@ -18,6 +18,11 @@ pub struct Shell {
     /// "sixfold volume: the sum over its triangles of the determinant of the
     /// three points as rows, a signed whole number".
     pub volume: i64,
+    /// "the least and greatest x, y and z of its points": the least, out of the
+    /// point list that the call is lent.
+    pub least: [u32; 3],
+    /// "the least and greatest x, y and z of its points": the greatest.
+    pub greatest: [u32; 3],
 }
 
 /// What the shell list returns.
@@ -71,6 +76,45 @@ fn walk(point_count: usize, triangles: &[u32]) -> (Vec<u32>, Vec<u32>) {
     (shell_of.into_iter().flatten().collect(), lowest)
 }
 
+/// The record of every shell, given the shell number of every point and the
+/// lowest point of every shell. The mesh has passed its checks.
+///
+/// A record starts at its lowest point, whose place is the box of that point
+/// alone, and takes in its points one by one, then its triangles.
+fn filled(
+    points: &[u32],
+    triangles: &[u32],
+    marks: &[u8],
+    shell_of: &[u32],
+    lowest: &[u32],
+) -> Vec<Shell> {
+    let places: Vec<[u32; 3]> = mesh::threes(points).collect();
+    let alone = |&low: &u32| Shell {
+        low,
+        least: places[low as usize],
+        greatest: places[low as usize],
+        ..Shell::default()
+    };
+    let mut list: Vec<Shell> = lowest.iter().map(alone).collect();
+    for ((&shell, place), &mark) in shell_of.iter().zip(&places).zip(marks) {
+        let record = &mut list[shell as usize];
+        record.points += 1;
+        if mark == 1 {
+            record.touches = 1;
+        }
+        for (axis, &coordinate) in place.iter().enumerate() {
+            record.least[axis] = record.least[axis].min(coordinate);
+            record.greatest[axis] = record.greatest[axis].max(coordinate);
+        }
+    }
+    for corners in mesh::threes(triangles) {
+        let record = &mut list[shell_of[corners[0] as usize] as usize];
+        record.triangles += 1;
+        record.volume += determinant(corners.map(|p| places[p as usize].map(i64::from)));
+    }
+    list
+}
+
 /// "A granted list gives the shell number of every point and one record per
 /// shell, in a lent list of records [..] record n is shell n; records past the
 /// last stay. Shell work room: 2V numbers."
@@ -102,32 +146,7 @@ pub fn shells(
         return refused(11);
     }
 
-    let mut list: Vec<Shell> = lowest
-        .iter()
-        .map(|&low| Shell {
-            low,
-            points: 0,
-            triangles: 0,
-            touches: 0,
-            volume: 0,
-        })
-        .collect();
-    for (point, &shell) in shell_of.iter().enumerate() {
-        let record = &mut list[shell as usize];
-        record.points += 1;
-        if marks[point] == 1 {
-            record.touches = 1;
-        }
-    }
-    let places: Vec<[i64; 3]> = mesh::threes(points)
-        .map(|place| place.map(i64::from))
-        .collect();
-    for corners in mesh::threes(triangles) {
-        let record = &mut list[shell_of[corners[0] as usize] as usize];
-        record.triangles += 1;
-        record.volume += determinant(corners.map(|point| places[point as usize]));
-    }
-
+    let list = filled(points, triangles, marks, &shell_of, &lowest);
     numbers.copy_from_slice(&shell_of);
     records[..list.len()].copy_from_slice(&list);
     Listed {

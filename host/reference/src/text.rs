@@ -204,15 +204,8 @@ fn print(task: &Task) -> String {
     );
     assert_eq!(number, 0, "an extracted mesh is smoothed");
 
-    let empty = Shell {
-        low: 0,
-        points: 0,
-        triangles: 0,
-        touches: 0,
-        volume: 0,
-    };
     let mut numbers = vec![0; point_count];
-    let mut records = vec![empty; point_count];
+    let mut records = vec![Shell::default(); point_count];
     let mut work = vec![0; 2 * point_count];
     let listed = shells(
         &smoothed,
@@ -237,19 +230,33 @@ fn print(task: &Task) -> String {
         line(&mut out, 'T', &[&a, &b, &c]);
     }
     for shell in &records[..listed.shells as usize] {
-        line(
-            &mut out,
-            'S',
-            &[
-                &shell.low,
-                &shell.points,
-                &shell.triangles,
-                &shell.touches,
-                &shell.volume,
-            ],
-        );
+        shell_line(&mut out, shell);
     }
     out
+}
+
+/// "the S line gets the six at its end [..] the pairs in the order x, y, z": a
+/// pair is the least and then the greatest coordinate.
+fn shell_line(out: &mut String, shell: &Shell) {
+    let ([least_x, least_y, least_z], [greatest_x, greatest_y, greatest_z]) =
+        (shell.least, shell.greatest);
+    line(
+        out,
+        'S',
+        &[
+            &shell.low,
+            &shell.points,
+            &shell.triangles,
+            &shell.touches,
+            &shell.volume,
+            &least_x,
+            &greatest_x,
+            &least_y,
+            &greatest_y,
+            &least_z,
+            &greatest_z,
+        ],
+    );
 }
 
 /// Adds one line: the letter and the numbers, parted by tabs, ended by LF.

@@ -1,5 +1,6 @@
 //! The list of shells.
 
+use crate::smooth::smoothed;
 use crate::tools::{
     extracted, faulty_meshes, random_grid, random_mesh, small_mesh, Grid, Mesh, Random,
 };
@@ -21,6 +22,8 @@ impl Rooms {
             triangles: 3_200_000_000 + i,
             touches: 3_300_000_000 + i,
             volume: i64::MIN + i64::from(i),
+            least: [3_400_000_000, 3_500_000_000, 3_600_000_000].map(|start| start + i),
+            greatest: [3_700_000_000, 3_800_000_000, 3_900_000_000].map(|start| start + i),
         };
         Rooms {
             numbers: (0..numbers as u32).map(|i| 2_000_000_000 + i).collect(),
@@ -75,11 +78,51 @@ fn centre_figure() {
         triangles: 8,
         touches: 0,
         volume: 16_777_216,
+        least: [128; 3],
+        greatest: [384; 3],
     };
     assert_eq!(listed(&mesh), (vec![0; 6], vec![record]));
-    mesh.points.fill(256);
+    mesh.points = smoothed(&mesh, 1, 256);
     record.volume = 0;
+    (record.least, record.greatest) = ([256; 3], [256; 3]);
     assert_eq!(listed(&mesh), (vec![0; 6], vec![record]));
+}
+
+/// The box of a shell, as the least and the greatest place.
+fn boxes(mesh: &Mesh) -> Vec<([u32; 3], [u32; 3])> {
+    let (_, records) = listed(mesh);
+    records.iter().map(|r| (r.least, r.greatest)).collect()
+}
+
+/// Two triangles, the second within the first one's box, and three points by
+/// themselves. Point 1, the lowest of the first triangle, is at none of its
+/// extremes, and point 8 shares its place.
+#[test]
+fn boxes_made_by_hand() {
+    let mesh = Mesh {
+        points: [
+            [7, 16_128, 0],
+            [500, 600, 700],
+            [0, 0, 16_128],
+            [450, 550, 710],
+            [100, 900, 650],
+            [800, 200, 750],
+            [460, 540, 720],
+            [470, 530, 715],
+            [500, 600, 700],
+        ]
+        .concat(),
+        triangles: vec![5, 4, 1, 3, 7, 6],
+        marks: vec![0; 9],
+    };
+    let wanted = [
+        ([7, 16_128, 0], [7, 16_128, 0]),
+        ([100, 200, 650], [800, 900, 750]),
+        ([0, 0, 16_128], [0, 0, 16_128]),
+        ([450, 530, 710], [470, 550, 720]),
+        ([500, 600, 700], [500, 600, 700]),
+    ];
+    assert_eq!(boxes(&mesh), wanted);
 }
 
 #[test]
@@ -142,6 +185,13 @@ fn determinant(mesh: &Mesh, triangle: &[u32]) -> i128 {
     .sum()
 }
 
+/// The coordinates of some points along an axis, in rising order.
+fn along(mesh: &Mesh, points: impl Iterator<Item = usize>, axis: usize) -> Vec<u32> {
+    let mut coordinates: Vec<u32> = points.map(|p| mesh.points[3 * p + axis]).collect();
+    coordinates.sort_unstable();
+    coordinates
+}
+
 fn assert_list_is_right(mesh: &Mesh) {
     let labels = least_labels(mesh);
     let lowest: Vec<usize> = (0..labels.len()).filter(|&p| labels[p] == p).collect();
@@ -165,6 +215,8 @@ fn assert_list_is_right(mesh: &Mesh) {
                 triangles: triangles().count() as u32,
                 touches: u32::from(members().any(|p| mesh.marks[p] == 1)),
                 volume: volume as i64,
+                least: [0, 1, 2].map(|axis| along(mesh, members(), axis)[0]),
+                greatest: [0, 1, 2].map(|axis| *along(mesh, members(), axis).last().unwrap()),
             }
         })
         .collect();

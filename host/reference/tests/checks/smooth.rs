@@ -36,7 +36,7 @@ fn assert_refused(mesh: &Mesh, rounds: u32, weight: u32, excess: [isize; 2], num
 }
 
 /// The smoothed points of a granted call.
-fn smoothed(mesh: &Mesh, rounds: u32, weight: u32) -> Vec<u32> {
+pub fn smoothed(mesh: &Mesh, rounds: u32, weight: u32) -> Vec<u32> {
     let (number, smoothed, work) = call(mesh, rounds, weight, [0, 0]);
     assert_eq!(number, 0);
     assert!(work.iter().all(|&number| number == 0));

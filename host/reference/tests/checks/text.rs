@@ -18,8 +18,7 @@ const WORKED: &str = "G 2 2 2 50 0 0\n100 0\n0 0\n0 0\n0 0\n";
 
 #[test]
 fn worked_example() {
-    let wanted =
-        "M 3 1 1\nV 0 128 0 0 1\nV 1 0 128 0 1\nV 2 0 0 128 1\nT 0 1 2\nS 0 3 1 1 2097152\n";
+    let wanted = "M 3 1 1\nV 0 128 0 0 1\nV 1 0 128 0 1\nV 2 0 0 128 1\nT 0 1 2\nS 0 3 1 1 2097152 0 128 0 128 0 128\n";
     assert_eq!(run_spaced(WORKED), wanted.replace(' ', "\t"));
 }
 
@@ -36,10 +35,12 @@ fn centre_example_with_one_round() {
         assert_eq!(*line, format!("V\t{edge}\t256\t256\t256\t0"));
     }
     assert_eq!(lines[7], "T\t2\t0\t1");
-    assert_eq!(lines[15], "S\t0\t6\t8\t0\t0");
+    assert_eq!(lines[15], "S\t0\t6\t8\t0\t0\t256\t256\t256\t256\t256\t256");
     assert_eq!(lines.len(), 16);
 }
 
+/// The points stand 129 units from the centre, at 256 - 129 and 256 + 129, so
+/// the sixfold volume is 8 * 129^3.
 #[test]
 fn a_negative_volume_has_a_minus_sign() {
     let mut input = String::from("G 3 3 3 50 0 0\n");
@@ -48,7 +49,32 @@ fn a_negative_volume_has_a_minus_sign() {
     }
     let output = run_spaced(&input);
     let last = output.lines().last().unwrap();
-    assert!(last.starts_with("S\t0\t6\t8\t0\t-"), "{last}");
+    assert_eq!(
+        last,
+        "S\t0\t6\t8\t0\t-17173512\t127\t385\t127\t385\t127\t385"
+    );
+}
+
+/// Six different numbers: one sample is above, at (3,0,2), and each of its five
+/// neighbours differs. The points stand at x 512 + 256·40/80 and
+/// 768 + 256·40/64, y 256·40/48, z 256 + 256·10/50 and 512 + 256·40/100.
+#[test]
+fn the_pairs_come_in_the_order_x_y_z() {
+    let mut grid = Grid::filled([5, 3, 4], 60, 0);
+    grid.set([3, 0, 2], 100);
+    for (place, below) in [
+        ([2, 0, 2], 20),
+        ([4, 0, 2], 36),
+        ([3, 1, 2], 52),
+        ([3, 0, 1], 50),
+        ([3, 0, 3], 0),
+    ] {
+        grid.set(place, below);
+    }
+    let output = run_text(&written(&grid, 0, 0));
+    let last = lines_of(&output, "S").pop().unwrap();
+    assert_eq!(last[..4], [0, 5, 4, 1]);
+    assert_eq!(last[5..], [640, 928, 0, 213, 307, 614]);
 }
 
 #[test]
@@ -253,14 +279,7 @@ fn the_output_is_what_the_calls_give() {
             &mut vec![0; 6 * t + 5 * v + 1],
         );
         assert_eq!(number, 0);
-        let none = Shell {
-            low: 0,
-            points: 0,
-            triangles: 0,
-            touches: 0,
-            volume: 0,
-        };
-        let mut records = vec![none; v];
+        let mut records = vec![Shell::default(); v];
         let listed = shells(
             &places,
             &mesh.triangles,
@@ -288,7 +307,11 @@ fn the_output_is_what_the_calls_give() {
         for (line, shell) in shell_lines.iter().zip(&records) {
             let [low, points, triangles, touches] =
                 [shell.low, shell.points, shell.triangles, shell.touches].map(i64::from);
-            assert_eq!(*line, [low, points, triangles, touches, shell.volume]);
+            let mut wanted = vec![low, points, triangles, touches, shell.volume];
+            for axis in 0..3 {
+                wanted.extend([shell.least[axis], shell.greatest[axis]].map(i64::from));
+            }
+            assert_eq!(*line, wanted);
         }
         let letters: String = output
             .lines()
