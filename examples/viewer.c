@@ -33,6 +33,16 @@ static void cast(uint16_t *volume) {
   }
 }
 
+/* A shell as a plain sentence: what it is, its size and its box, both in voxels. */
+static void say(uint32_t n, const tholbrina_shell *shell) {
+  double sixfold = shell->volume < 0 ? -(double)shell->volume : (double)shell->volume;
+  printf("Shell %" PRIu32 " is %s of %.3f voxels", n, shell->volume < 0 ? "a void" : "an island", sixfold / (6.0 * 256 * 256 * 256));
+  printf(", from %.3f to %.3f along x", shell->least_x / 256.0, shell->greatest_x / 256.0);
+  printf(", %.3f to %.3f along y", shell->least_y / 256.0, shell->greatest_y / 256.0);
+  printf(" and %.3f to %.3f along z", shell->least_z / 256.0, shell->greatest_z / 256.0);
+  printf("%s.\n", shell->touches ? ", and touches the outer face" : "");
+}
+
 int main(void) {
   uint16_t *volume = room(samples, sizeof *volume);
   size_t most_points = tholbrina_grid_points(side, side, side), most_triangles = tholbrina_grid_triangles(side, side, side);
@@ -61,9 +71,7 @@ int main(void) {
 
   printf("%" PRIu32 " shells.\n", count);
   for (uint32_t n = 0; n < count; n++)
-    printf("Shell %" PRIu32 " is %s of %.3f voxels%s.\n", n, shells[n].volume < 0 ? "a void" : "an island",
-           (shells[n].volume < 0 ? -1.0 : 1.0) * (double)shells[n].volume / (6.0 * 256 * 256 * 256),
-           shells[n].touches ? " that touches the outer face" : "");
+    say(n, &shells[n]);
 
   free(sets), free(shells), free(numbers), free(rounds_work), free(smoothed);
   free(work), free(triangles), free(marks), free(edges), free(points), free(volume);

@@ -17,7 +17,7 @@
 #define THOLBRINA_H
 
 /* The version of the library, the header and the programs. A change of a call, a record or a text raises the second number. */
-#define THOLBRINA_VERSION "0.1.0"
+#define THOLBRINA_VERSION "0.2.0"
 
 #include <stddef.h>
 #include <stdint.h>
@@ -126,16 +126,31 @@ uint32_t tholbrina_show(const uint32_t *raw, size_t raw_len,
                         uint32_t second, uint32_t point,
                         uint32_t *x, uint32_t *y, uint32_t *z);
 
-/* A shell's record. */
+/* A shell's record, of 48 bytes. The six numbers at its end are its box, in units, 256 a voxel. The box is that of the places in the list of points
+ * that is lent to the call: the raw list gives the raw box, the smoothed list the smoothed one. The box of a point in no triangle is its own place,
+ * each least equal to its greatest. */
 typedef struct tholbrina_shell {
-  uint32_t low;       /* its lowest point */
-  uint32_t points;    /* how many points it has */
-  uint32_t triangles; /* how many triangles it has */
-  uint32_t touches;   /* 1 if any of its points is marked, else 0 */
-  int64_t volume;     /* six times its volume in cubic units: the sum over its triangles of the determinant of the three points as rows. A void inside
-                       * metal counts negative, save where rounding or smoothing lets its points fall together. A shell that touches an outer face
-                       * may be open there, and the sum is then no volume of a body. */
+  uint32_t low;        /* its lowest point */
+  uint32_t points;     /* how many points it has */
+  uint32_t triangles;  /* how many triangles it has */
+  uint32_t touches;    /* 1 if any of its points is marked, else 0 */
+  int64_t volume;      /* six times its volume in cubic units: the sum over its triangles of the determinant of the three points as rows. A void inside
+                        * metal counts negative, save where rounding or smoothing lets its points fall together. A shell that touches an outer face
+                        * may be open there, and the sum is then no volume of a body. */
+  uint32_t least_x;    /* the least x of its points */
+  uint32_t greatest_x; /* the greatest x of its points */
+  uint32_t least_y;    /* the least y of its points */
+  uint32_t greatest_y; /* the greatest y of its points */
+  uint32_t least_z;    /* the least z of its points */
+  uint32_t greatest_z; /* the greatest z of its points */
 } tholbrina_shell;
+
+/* A record has no padding, which the library counts on. Before C11 and C++11 there is no way to say so. */
+#if defined(__cplusplus) && __cplusplus >= 201103L
+static_assert(sizeof(tholbrina_shell) == 48, "a shell's record has 48 bytes");
+#elif defined(__STDC_VERSION__) && __STDC_VERSION__ >= 201112L
+_Static_assert(sizeof(tholbrina_shell) == 48, "a shell's record has 48 bytes");
+#endif
 
 /* The length of the work room for the shells of so many points. */
 static inline size_t tholbrina_shells_work(size_t points) {

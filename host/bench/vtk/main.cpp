@@ -56,7 +56,7 @@ static void smooth(vtkPolyData *mesh, int runs) {
   median("vtkSmoothPolyDataFilter", filter.Get(), runs);
 }
 
-// Every region numbered; no volumes, which the library's list has.
+// Every region numbered; no volumes and no boxes, which the library's list has.
 static void connectivity(vtkPolyData *mesh, int runs) {
   vtkNew<vtkPolyDataConnectivityFilter> filter;
   filter->SetInputData(mesh);

@@ -129,7 +129,8 @@ pub fn show(raw: &[u32], smoothed: &[u32], second: u32, point: u32, place: &mut 
     c::show(raw, smoothed, second, point, place)
 }
 
-/// A shell's record, laid out as the library has it.
+/// A shell's record, laid out as the library has it. The six numbers at its end are its box, in 1/256 of a voxel: that of the mesh's places, raw or
+/// smoothed as they are lent. The box of a point in no triangle is its own place.
 #[repr(C)]
 #[derive(Clone, Copy, PartialEq, Eq, Debug, Default)]
 pub struct Shell {
@@ -143,7 +144,22 @@ pub struct Shell {
     pub touches: u32,
     /// Six times its volume in cubes of 1/256 of a voxel, negative for a void inside metal.
     pub volume: i64,
+    /// The least x of its points.
+    pub least_x: u32,
+    /// The greatest x of its points.
+    pub greatest_x: u32,
+    /// The least y of its points.
+    pub least_y: u32,
+    /// The greatest y of its points.
+    pub greatest_y: u32,
+    /// The least z of its points.
+    pub least_z: u32,
+    /// The greatest z of its points.
+    pub greatest_z: u32,
 }
+
+// As the C header says of the record.
+const _: () = assert!(size_of::<Shell>() == 48);
 
 /// What the shell list answers: number 0 and the count of shells if granted, else the refusal's number and count 0.
 #[derive(Clone, Copy, PartialEq, Eq, Debug)]

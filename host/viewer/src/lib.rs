@@ -10,7 +10,9 @@
 //! let surface = viewer::Surface::extract([3, 3, 3], 500, &samples)?;
 //! let shells = surface.smooth(1, 64)?.shells()?;
 //! assert_eq!(shells.records.len(), 1);
-//! assert!(shells.records[0].volume < 0);
+//! let void = shells.records[0];
+//! assert!(void.volume < 0);
+//! assert_eq!((void.least_x, void.greatest_x), (160, 352));
 //!
 //! let refusal = viewer::Surface::extract([3, 3, 65], 500, &samples).unwrap_err();
 //! assert_eq!(refusal, viewer::Refusal::Sides);

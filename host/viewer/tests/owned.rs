@@ -23,11 +23,28 @@ fn the_figure_of_one_sample() {
         triangles: 8,
         touches: 0,
         volume: 16_777_216,
+        least_x: 128,
+        greatest_x: 384,
+        least_y: 128,
+        greatest_y: 384,
+        least_z: 128,
+        greatest_z: 384,
     };
     assert_eq!(shells.numbers, [0; 6]);
     assert_eq!(shells.records, [record]);
     let smoothed = surface.smooth(1, 256).unwrap();
     assert_eq!(smoothed.points, [256; 18]);
+    let together = Shell {
+        volume: 0,
+        least_x: 256,
+        greatest_x: 256,
+        least_y: 256,
+        greatest_y: 256,
+        least_z: 256,
+        greatest_z: 256,
+        ..record
+    };
+    assert_eq!(smoothed.shells().unwrap().records, [together]);
     assert_eq!(smoothed.answers().unwrap(), [Answer::Flat; 6]);
     assert!(matches!(
         surface.answers().unwrap()[0],

@@ -14,6 +14,12 @@ fn held(length: usize) -> Vec<Shell> {
             triangles: 0xdead_0005 ^ i,
             touches: 0xbeef_0007 ^ i,
             volume: -0x0123_4567_89ab - i64::from(i),
+            least_x: 0xa5a5_0009 ^ i,
+            greatest_x: 0x5a5a_000b ^ i,
+            least_y: 0xdead_000d ^ i,
+            greatest_y: 0xbeef_000f ^ i,
+            least_z: 0xc3c3_0011 ^ i,
+            greatest_z: 0x3c3c_0013 ^ i,
         })
         .collect()
 }
@@ -25,6 +31,8 @@ fn plain(shell: &Shell) -> reference::shells::Shell {
         triangles: shell.triangles,
         touches: shell.touches,
         volume: shell.volume,
+        least: [shell.least_x, shell.least_y, shell.least_z],
+        greatest: [shell.greatest_x, shell.greatest_y, shell.greatest_z],
     }
 }
 

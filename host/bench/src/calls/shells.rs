@@ -17,6 +17,12 @@ const NONE: viewer::Shell = viewer::Shell {
     triangles: 1,
     touches: 1,
     volume: 1,
+    least_x: 1,
+    greatest_x: 1,
+    least_y: 1,
+    greatest_y: 1,
+    least_z: 1,
+    greatest_z: 1,
 };
 
 fn plain(shell: &viewer::Shell) -> reference::shells::Shell {
@@ -26,6 +32,8 @@ fn plain(shell: &viewer::Shell) -> reference::shells::Shell {
         triangles: shell.triangles,
         touches: shell.touches,
         volume: shell.volume,
+        least: [shell.least_x, shell.least_y, shell.least_z],
+        greatest: [shell.greatest_x, shell.greatest_y, shell.greatest_z],
     }
 }
 
