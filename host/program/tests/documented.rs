@@ -11,7 +11,7 @@ fn answers(input: &str, output: &str) {
 fn the_worked_example() {
     answers(
         "G\t2\t2\t2\t50\t0\t0\n100\t0\n0\t0\n0\t0\n0\t0\n",
-        "M\t3\t1\t1\nV\t0\t128\t0\t0\t1\nV\t1\t0\t128\t0\t1\nV\t2\t0\t0\t128\t1\nT\t0\t1\t2\nS\t0\t3\t1\t1\t2097152\n",
+        "M\t3\t1\t1\nV\t0\t128\t0\t0\t1\nV\t1\t0\t128\t0\t1\nV\t2\t0\t0\t128\t1\nT\t0\t1\t2\nS\t0\t3\t1\t1\t2097152\t0\t128\t0\t128\t0\t128\n",
     );
 }
 
@@ -33,7 +33,7 @@ fn one_sample_above_in_the_middle() {
             "M\t6\t8\t1\n\
              V\t14\t256\t256\t128\t0\nV\t31\t256\t128\t256\t0\nV\t36\t128\t256\t256\t0\n\
              V\t39\t384\t256\t256\t0\nV\t40\t256\t384\t256\t0\nV\t41\t256\t256\t384\t0\n\
-             {CENTRE_TRIANGLES}S\t0\t6\t8\t0\t16777216\n"
+             {CENTRE_TRIANGLES}S\t0\t6\t8\t0\t16777216\t128\t384\t128\t384\t128\t384\n"
         ),
     );
 }
@@ -45,7 +45,7 @@ fn one_round_of_full_weight_lets_the_six_points_fall_together() {
         .concat();
     answers(
         &format!("G\t3\t3\t3\t50\t1\t256\n{CENTRE_ROWS}"),
-        &format!("M\t6\t8\t1\n{points}{CENTRE_TRIANGLES}S\t0\t6\t8\t0\t0\n"),
+        &format!("M\t6\t8\t1\n{points}{CENTRE_TRIANGLES}S\t0\t6\t8\t0\t0\t256\t256\t256\t256\t256\t256\n"),
     );
 }
 

@@ -191,19 +191,31 @@ fn the_longest_input_and_as_many_bytes_as_the_program_reads() {
     refused_all(cases.into());
 }
 
+/// A sample in each void of examples/small.txt, in the order of the list.
+const SAMPLES: [[i64; 3]; 3] = [[2, 2, 2], [5, 5, 3], [5, 2, 5]];
+
 #[test]
 fn the_example_has_three_voids_inside_metal() {
     let example = concat!(env!("CARGO_MANIFEST_DIR"), "/../../examples/small.txt");
     let input = std::fs::read(example).expect("examples/small.txt can be read");
     let answer = String::from_utf8(same(&input)).expect("plain text");
-    let shells: Vec<Vec<&str>> = answer
+    let shells: Vec<Vec<i64>> = answer
         .lines()
-        .filter(|line| line.starts_with('S'))
-        .map(|line| line.split('\t').collect())
+        .filter_map(|line| line.strip_prefix("S\t"))
+        .map(|line| {
+            line.split('\t')
+                .map(|field| field.parse().unwrap())
+                .collect()
+        })
         .collect();
-    assert_eq!(shells.len(), 3);
-    for shell in shells {
-        assert_eq!(shell[4], "0", "a void touches no outer face");
-        assert!(shell[5].starts_with('-'), "a void counts negative");
+    assert_eq!(shells.len(), SAMPLES.len());
+    for (shell, sample) in shells.iter().zip(SAMPLES) {
+        assert_eq!(shell[3], 0, "a void touches no outer face");
+        assert!(shell[4] < 0, "a void counts negative");
+        let extents = shell[5..].chunks_exact(2);
+        assert_eq!(extents.len(), 3, "a least and a greatest along each axis");
+        for (extent, at) in extents.zip(sample) {
+            assert!(extent[0] < 256 * at && 256 * at < extent[1], "{shell:?}");
+        }
     }
 }
