@@ -4,8 +4,11 @@ use std::fmt::Write;
 
 use viewer::{Answer, Shell, Shells, Surface};
 
-/// Six times the volume of a voxel, in cubes of 1/256 of its side.
-const VOXEL: f64 = 6.0 * 256.0 * 256.0 * 256.0;
+/// The side of a voxel in units, in which places are told.
+const UNITS: f64 = 256.0;
+
+/// Six times the volume of a voxel, in cubes of a unit.
+const VOXEL: f64 = 6.0 * UNITS * UNITS * UNITS;
 
 /// What a shell is by its sign: a void inside metal counts negative.
 fn kind(shell: &Shell) -> &'static str {
@@ -50,12 +53,42 @@ fn count(records: &[Shell]) -> String {
     parts.join(", ")
 }
 
+/// A coordinate in voxels, to three decimals. The quotient is exact, since a unit is 1/256 of a voxel; as with every number of the list it is then rounded to the
+/// nearest, a half to the even decimal. Different coordinates stay different, since a unit is more than 0.003.
+fn voxels(coordinate: u32) -> String {
+    format!("{:.3}", f64::from(coordinate) / UNITS)
+}
+
+/// Where a shell lies: "from 10.250 to 13.500 along x, 4.000 to 7.125 along y and at 3.000 along z". One place along an axis is one number. "From" and "at" are
+/// said where they change, so that a listener hears neither three times.
+fn place(shell: &Shell) -> String {
+    let axes = [
+        ("", "x", shell.least_x, shell.greatest_x),
+        (", ", "y", shell.least_y, shell.greatest_y),
+        (" and ", "z", shell.least_z, shell.greatest_z),
+    ];
+    let (mut text, mut before) = (String::new(), "");
+    for (link, axis, least, greatest) in axes {
+        let (word, numbers) = match least == greatest {
+            true => ("at ", voxels(least)),
+            false => (
+                "from ",
+                format!("{} to {}", voxels(least), voxels(greatest)),
+            ),
+        };
+        let said = if word == before { "" } else { word };
+        write!(text, "{link}{said}{numbers} along {axis}").expect("a string takes any text");
+        before = word;
+    }
+    text
+}
+
 /// The mean curvature of a shell's bent points, a voxel: on average, each point with its area for a weight, and at the sharpest.
 fn bend(shells: &Shells, answers: &[Answer], shell: usize) -> String {
     let (mut points, mut greatest, mut sum, mut areas) = (0, 0.0f64, 0.0, 0.0);
     for (&number, answer) in shells.numbers.iter().zip(answers) {
         if let (true, &Answer::Bent(area, [x, y, z])) = (number as usize == shell, answer) {
-            let bend = 256.0 * (x * x + y * y + z * z).sqrt();
+            let bend = UNITS * (x * x + y * y + z * z).sqrt();
             points += 1;
             greatest = greatest.max(bend);
             sum += area * bend;
@@ -88,8 +121,10 @@ pub fn list(shells: &Shells, answers: Option<&[Answer]>) -> String {
             1 => ", and touches the outer face",
             _ => "",
         };
+        let place = place(shell);
         let bend = answers.map_or(String::new(), |answers| bend(shells, answers, n));
-        writeln!(text, "Shell {n} is {what}{touch}.{bend}").expect("a string takes any text");
+        writeln!(text, "Shell {n} is {what}, {place}{touch}.{bend}")
+            .expect("a string takes any text");
     }
     text
 }
@@ -100,6 +135,26 @@ fn line(text: &mut String, name: char, numbers: &[&dyn std::fmt::Display]) {
         write!(text, "\t{number}").expect("a string takes any text");
     }
     text.push('\n');
+}
+
+fn shell_line(text: &mut String, shell: &Shell) {
+    line(
+        text,
+        'S',
+        &[
+            &shell.low,
+            &shell.points,
+            &shell.triangles,
+            &shell.touches,
+            &shell.volume,
+            &shell.least_x,
+            &shell.greatest_x,
+            &shell.least_y,
+            &shell.greatest_y,
+            &shell.least_z,
+            &shell.greatest_z,
+        ],
+    );
 }
 
 /// The mesh and its shells as lines M, V, T and S, as the program for small grids writes them.
@@ -126,12 +181,8 @@ pub fn mesh(surface: &Surface, shells: &Shells) -> String {
     for corners in surface.triangles.chunks_exact(3) {
         line(&mut text, 'T', &[&corners[0], &corners[1], &corners[2]]);
     }
-    for s in &shells.records {
-        line(
-            &mut text,
-            'S',
-            &[&s.low, &s.points, &s.triangles, &s.touches, &s.volume],
-        );
+    for shell in &shells.records {
+        shell_line(&mut text, shell);
     }
     text
 }
