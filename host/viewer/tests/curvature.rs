@@ -3,7 +3,7 @@
 mod tools;
 
 use reference::curvature::Answer;
-use tools::{extracted, first_of, made_up_triangles, spoiled, Caller, Seed};
+use tools::{extracted, first_of, made_up_triangles, smoothed, spoiled, Caller, Seed};
 
 fn bits(numbers: &[f64]) -> Vec<u64> {
     numbers.iter().map(|number| number.to_bits()).collect()
@@ -60,19 +60,6 @@ fn same_answer(marks: &[u8], areas: &[f64], vectors: &[f64], point: u32) -> (u32
     assert_eq!((number, kind), (expected, expected_kind), "point {point}");
     assert_eq!(bits(&values), bits(&expected_values), "point {point}");
     (number, kind)
-}
-
-fn smoothed(mesh: &Caller, rounds: u32, weight: u32) -> Caller {
-    let mut second = vec![0; mesh.points.len()];
-    let mut work = vec![0; 6 * (mesh.triangles.len() / 3) + 5 * mesh.marks.len() + 1];
-    assert_eq!(
-        viewer::smooth(mesh.lent(), rounds, weight, &mut second, &mut work),
-        0
-    );
-    Caller {
-        points: second,
-        ..mesh.clone()
-    }
 }
 
 #[test]

@@ -1,8 +1,10 @@
-//! Shells against the reference: the answer, and every place of the three rooms.
+//! Shells against the reference: the answer, and every place of the three rooms; and where boxes lie, against figures made by hand.
 
 mod tools;
 
-use tools::{extracted, first_of, guard, made_up_triangles, spoiled, Caller, Seed};
+use tools::{
+    extents, extracted, first_of, guard, made_up_triangles, smoothed, spoiled, Caller, Seed,
+};
 use viewer::Shell;
 
 /// Records that hold something before the call, a different one at each place.
@@ -36,6 +38,9 @@ fn plain(shell: &Shell) -> reference::shells::Shell {
     }
 }
 
+/// Records after the last that is lent, which no call may write.
+const BEYOND: usize = 2;
+
 /// One call on both sides with rooms of these lengths; answers number, count, shell numbers and records.
 fn same_in(
     mesh: &Caller,
@@ -46,7 +51,7 @@ fn same_in(
     let (held_numbers, held_work, held_records) = (
         guard(0xa5a5_0001, numbers),
         guard(0xbeef_0007, work),
-        held(records),
+        held(records + BEYOND),
     );
     let (mut proved_numbers, mut plain_numbers) = (held_numbers.clone(), held_numbers.clone());
     let (mut proved_work, mut plain_work) = (held_work.clone(), held_work.clone());
@@ -55,7 +60,7 @@ fn same_in(
     let found = viewer::shells(
         mesh.lent(),
         &mut proved_numbers,
-        &mut proved,
+        &mut proved[..records],
         &mut proved_work,
     );
     let expected = reference::shells::shells(
@@ -63,7 +68,7 @@ fn same_in(
         &mesh.triangles,
         &mesh.marks,
         &mut plain_numbers,
-        &mut expected_records,
+        &mut expected_records[..records],
         &mut plain_work,
     );
     assert_eq!(
@@ -120,41 +125,56 @@ fn the_figure_of_document_01() {
             only.points,
             only.triangles,
             only.touches,
-            only.volume
+            only.volume,
+            extents(only)
         ),
-        (0, 6, 8, 0, 16_777_216)
+        (0, 6, 8, 0, 16_777_216, [[128, 384]; 3])
     );
 }
 
 #[test]
-fn extracted_meshes() {
+fn extracted_meshes_raw_and_smoothed() {
     let mut seed = Seed::new(41);
     for sides in [[4, 4, 4], [7, 5, 6], [2, 9, 3], [16, 12, 14]] {
         for bound in [2, 20, 65_536] {
-            same(&extracted(&mut seed, sides, bound));
+            let raw = extracted(&mut seed, sides, bound);
+            same(&raw);
+            same(&smoothed(&raw, 3, 200));
         }
     }
 }
 
-/// A block of metal with voids of one sample each, none beside another.
-#[test]
-fn castings_with_a_known_number_of_voids() {
-    for side in [5u32, 9, 17, 33] {
-        let mut samples = vec![1000; (side * side * side) as usize];
-        let mut voids = 0;
-        for z in (2..side - 1).step_by(3) {
-            for y in (2..side - 1).step_by(3) {
-                for x in (2..side - 1).step_by(3) {
-                    samples[(x + side * (y + side * z)) as usize] = 0;
-                    voids += 1;
-                }
+/// A block of metal with voids of one sample each, none beside another: the block, and where the voids are, in the order of their lowest points.
+fn block(side: u32) -> (Caller, Vec<[u32; 3]>) {
+    let mut samples = vec![1000; (side * side * side) as usize];
+    let mut voids = Vec::new();
+    for z in (2..side - 1).step_by(3) {
+        for y in (2..side - 1).step_by(3) {
+            for x in (2..side - 1).step_by(3) {
+                samples[(x + side * (y + side * z)) as usize] = 0;
+                voids.push([x, y, z]);
             }
         }
-        let (count, _, records) = same(&tools::mesh_of([side; 3], 500, &samples));
-        assert_eq!(count, voids);
-        assert!(records[..voids as usize]
-            .iter()
-            .all(|s| s.touches == 0 && s.volume < 0));
+    }
+    (tools::mesh_of([side; 3], 500, &samples), voids)
+}
+
+/// The points of a void stand half a voxel from its sample; a round of full weight puts them all at the sample.
+#[test]
+fn castings_with_known_voids() {
+    for side in [5, 9, 17, 33] {
+        let (raw, voids) = block(side);
+        for (mesh, half) in [(&raw, 128), (&smoothed(&raw, 1, 256), 0)] {
+            let (count, _, records) = same(mesh);
+            assert_eq!(count as usize, voids.len());
+            for (record, void) in records.iter().zip(&voids) {
+                assert_eq!((record.touches, record.volume < 0), (0, half > 0));
+                assert_eq!(
+                    extents(record),
+                    void.map(|at| [256 * at - half, 256 * at + half])
+                );
+            }
+        }
     }
 }
 
@@ -197,11 +217,10 @@ fn chains() {
     }
 }
 
-#[test]
-fn meshes_made_by_hand() {
-    let mut seed = Seed::new(43);
+/// Counts of points and triangles on them, with points by themselves in most.
+fn by_hand() -> Vec<(usize, Vec<u32>)> {
     let fan = (1..=1000).flat_map(|i| [0, i, i + 1]).collect();
-    for (count, triangles) in [
+    vec![
         (3, vec![0, 1, 2]),
         (6, vec![0, 1, 2, 1, 0, 3, 0, 1, 4, 1, 0, 5]),
         (1002, fan),
@@ -210,9 +229,72 @@ fn meshes_made_by_hand() {
         (7, vec![6, 5, 4, 3, 2, 6]),
         (500, vec![]),
         (0, vec![]),
-    ] {
+    ]
+}
+
+#[test]
+fn meshes_made_by_hand() {
+    let mut seed = Seed::new(43);
+    for (count, triangles) in by_hand() {
         same(&placed(&mut seed, count, triangles));
     }
+}
+
+/// Every coordinate is the least or the greatest that there may be.
+#[test]
+fn coordinates_at_the_limits() {
+    let mut seed = Seed::new(46);
+    for (count, triangles) in by_hand() {
+        let mut mesh = placed(&mut seed, count, triangles);
+        for coordinate in &mut mesh.points {
+            *coordinate = 16_128 * seed.below(2) as u32;
+        }
+        same(&mesh);
+    }
+}
+
+#[test]
+fn all_points_in_one_place() {
+    let mut seed = Seed::new(47);
+    for place in [[0; 3], [16_128; 3], [16_128, 0, 5000]] {
+        for (count, triangles) in by_hand() {
+            let mut mesh = placed(&mut seed, count, triangles);
+            mesh.points = place.repeat(count);
+            let (shells, _, records) = same(&mesh);
+            for record in &records[..shells as usize] {
+                assert_eq!(extents(record), place.map(|at| [at, at]));
+            }
+        }
+    }
+}
+
+/// Two triangles, the second within the first one's box, and two points by themselves. Point 1, the lowest of the first triangle, is at none of its extremes.
+#[test]
+fn a_shell_within_the_box_of_another() {
+    let mesh = Caller {
+        points: [
+            [7, 16_128, 0],
+            [500, 600, 700],
+            [450, 550, 710],
+            [100, 900, 650],
+            [800, 200, 750],
+            [460, 540, 720],
+            [470, 530, 715],
+            [500, 600, 700],
+        ]
+        .concat(),
+        triangles: vec![4, 3, 1, 2, 6, 5],
+        marks: vec![0; 8],
+    };
+    let (count, _, records) = same(&mesh);
+    let found: Vec<_> = records[..count as usize].iter().map(extents).collect();
+    let wanted = [
+        [[7, 7], [16_128, 16_128], [0, 0]],
+        [[100, 800], [200, 900], [650, 750]],
+        [[450, 470], [530, 550], [710, 720]],
+        [[500, 500], [600, 600], [700, 700]],
+    ];
+    assert_eq!(found, wanted);
 }
 
 #[test]
@@ -242,6 +324,7 @@ fn volumes_at_the_extremes() {
             records[0].volume.unsigned_abs(),
             500_000 * 2 * 16_128u64.pow(3)
         );
+        assert_eq!(extents(&records[0]), [[0, 16_128]; 3]);
     }
 }
 

@@ -161,6 +161,23 @@ pub fn extracted(seed: &mut Seed, sides: [u32; 3], bound: u64) -> Caller {
     mesh_of(sides, (bound / 2) as u16, &samples)
 }
 
+/// The same mesh with its points smoothed.
+pub fn smoothed(mesh: &Caller, rounds: u32, weight: u32) -> Caller {
+    Caller {
+        points: mesh.lent().smooth(rounds, weight).unwrap(),
+        ..mesh.clone()
+    }
+}
+
+/// A shell's box: the least and the greatest along each axis.
+pub fn extents(shell: &viewer::Shell) -> [[u32; 2]; 3] {
+    [
+        [shell.least_x, shell.greatest_x],
+        [shell.least_y, shell.greatest_y],
+        [shell.least_z, shell.greatest_z],
+    ]
+}
+
 /// So many triangles of three different points below a count, made up.
 pub fn made_up_triangles(seed: &mut Seed, count: u64, triangles: usize) -> Vec<u32> {
     (0..triangles)
