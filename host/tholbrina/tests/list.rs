@@ -79,10 +79,20 @@ fn one_void() {
     );
 }
 
+/// A casting of nine voids as text.
+const CASTING: &str = concat!(env!("CARGO_MANIFEST_DIR"), "/../../examples/casting.txt");
+
+#[test]
+fn the_readme_and_the_manual_page_have_a_sentence_of_the_list() {
+    let list = run(&["list", CASTING]).unwrap();
+    let sentence = list.lines().nth(1).unwrap();
+    assert!(include_str!("../../../README.md").contains(sentence));
+    assert!(include_str!("../../../install/tholbrina.1.in").contains(sentence));
+}
+
 #[test]
 fn how_sharply_a_void_bends() {
-    let casting = concat!(env!("CARGO_MANIFEST_DIR"), "/../../examples/casting.txt");
-    let list = run(&["list", casting, "--curvature"]).unwrap();
+    let list = run(&["list", CASTING, "--curvature"]).unwrap();
     let lines: Vec<&str> = list.lines().collect();
     assert_eq!(
         lines[..3],

@@ -23,7 +23,7 @@ fn casting(seed: &mut Seed, voids: usize) -> Vec<u16> {
     samples
 }
 
-/// The least and the greatest along each axis, in samples or in 1/256 of a voxel.
+/// The least and the greatest sample along each axis.
 type Extents = [[u32; 2]; 3];
 
 /// The parts that the samples below the grey value fall into, from neighbour to neighbour along the axes, in the order of their lowest samples: where each lies.
