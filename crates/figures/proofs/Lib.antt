@@ -2,3 +2,4 @@
 pub mod Figures
 pub mod Centre
 pub mod Examples
+pub mod Boxes
