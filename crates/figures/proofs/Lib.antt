@@ -1,4 +1,4 @@
--- Every row of the table holds; what document 01 says of the grid of 3×3×3 samples with the centre above; its worked example, and texts that are refused.
+-- Every row of the table holds; what document 01 says of the grid of 3×3×3 samples with the centre above; its worked example, and texts that are refused; boxes of shells.
 pub mod Figures
 pub mod Centre
 pub mod Examples
