@@ -18,7 +18,8 @@ use Rattle.writing.specs.Writing.{outcome, written}
 use Rattle.writing.specs.declared.Written.{Written}
 use Rattle.writing.proofs.Fields.{written-front, written-not}
 use Rattle.shelllines.specs.ShellLines.{shellsText}
-use Rattle.meshtext.specs.MeshText.{meshCounts, frontText, meshText, FrontFits, listsFit, Holds, frontWritten, meshWritten}
+use Rattle.meshtext.specs.MeshText.{meshCounts, frontText, meshText, listsFit, Holds, meshWritten}
+use Rattle.meshtext.specs.Front.{FrontFits, frontWritten}
 
 module _ (points edges marks triangles : List ℕ) (records : List Shell) (shells : ℕ) (room : List ℕ) where
   abbrev fits : Bool

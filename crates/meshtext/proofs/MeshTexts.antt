@@ -15,7 +15,8 @@ use Rattle.mesh.specs.Check.{lengthsFit}
 use Rattle.lines.specs.Line.{fields, lettered}
 use Rattle.meshlines.specs.MeshLines.{pointsText, trianglesText}
 use Rattle.writing.specs.Writing.{outcome}
-use Rattle.meshtext.specs.MeshText.{letterM, meshCounts, frontText, meshText, FrontFits, frontWritten}
+use Rattle.meshtext.specs.MeshText.{letterM, meshCounts, frontText, meshText}
+use Rattle.meshtext.specs.Front.{FrontFits, frontWritten}
 use Rattle.writing.proofs.Fields.{lettered-length}
 use Rattle.records.specs.declared.Shell.{Shell}
 use Rattle.shelllines.proofs.ShellTexts.{shells-same}

@@ -1,11 +1,10 @@
 -- The text of a mesh (document 01, "The program for small grids", output).
 use mathlib.Core.Path.{_≡_}
 use mathlib.Core.List.{List, [], _∷_, _++_}
-use mathlib.Core.Bool.{Bool, true, cond, not, _&&_}
+use mathlib.Core.Bool.{Bool, cond, not, _&&_}
 use Prim.Native.Nat.{ℕ, _+_, _*_, _/_, _≤_}
-use lib.Dec.{eqb, leb, ltb}
+use lib.Dec.{eqb, leb}
 use lib.ListN.{length, getD}
-use lib.Seq.{sets}
 use Rattle.grid.specs.Limits.{mostPoints}
 use Rattle.mesh.specs.Check.{lengthsFit}
 use Rattle.records.specs.declared.Shell.{Shell}
@@ -36,11 +35,6 @@ meshText points edges marks triangles shells record-of = frontText (meshCounts m
 unfoldable pub listsFit : ℕ → ℕ → ℕ → ℕ → ℕ → ℕ → Bool
 listsFit points edges marks triangles records shells = lengthsFit points triangles marks && (eqb edges marks && (leb shells records && leb shells mostPoints))
 
--- the lists of points and triangles that are written
-pub record FrontFits (points edges marks triangles : List ℕ) : Type 0 where
-  pub lengths : lengthsFit (length points) (length triangles) (length marks) ≡ true
-  pub edged : length edges ≡ length marks
-
 -- so many bytes hold the text of any mesh of so many points, triangles and shells: `M` and `T` have three numbers, `V` has five
 abbrev pub longestFront : ℕ → ℕ → ℕ
 longestFront points triangles = longestLine 3 + longestLine 5 * points + longestLine 3 * triangles
@@ -48,15 +42,11 @@ longestFront points triangles = longestLine 3 + longestLine 5 * points + longest
 abbrev pub longest : ℕ → ℕ → ℕ → ℕ
 longest points triangles shells = longestFront points triangles + longestShell * shells
 
--- the text of a mesh and the first of these records goes to the front of the room
+-- the text of a mesh with the first of these records, one a shell, goes to the front of the room
 unfoldable pub meshWritten : List ℕ → List ℕ → List ℕ → List ℕ → List Shell → ℕ → List ℕ → Outcome
 meshWritten points edges marks triangles records shells room =
     cond (not (listsFit (length points) (length edges) (length marks) (length triangles) (length records) shells)) (outcome 6 0 room)
     (written (meshText points edges marks triangles shells (λ n. getD records n none)) room)
-
--- the lines before those of the shells, written if the room holds them and so many bytes more
-unfoldable pub frontWritten : List ℕ → ℕ → List ℕ → Outcome
-frontWritten text more room = cond (ltb (length room) (length text + more)) (outcome 3 0 room) (outcome 0 (length text) (sets room 0 text))
 
 -- a room that holds the longest text is not too short
 abbrev pub Holds : ℕ → ℕ → ℕ → ℕ → ℕ → Type 0

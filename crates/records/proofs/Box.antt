@@ -1,7 +1,7 @@
 -- A shell's box: a lone point's is its place, every point of the shell is in it, each of its six numbers is a coordinate of one of them, and none is beyond the limit on coordinates.
 use mathlib.Core.Path.{_≡_, refl, subst}
 use mathlib.Core.List.{List, [], _∷_}
-use mathlib.Core.Bool.{Bool, true}
+use mathlib.Core.Bool.{Bool}
 use Prim.Native.Nat.{ℕ, _<_, _≤_}
 use native.Mathlib.Omega.{arith}
 use lib.Dec.{eqb}
@@ -13,10 +13,11 @@ use Rattle.laws.proofs.Keep.{length-keep, rank-lt, at-rank, kept-at}
 use Rattle.laws.proofs.Least.{WorthAt, least-le, le-greatest, least-met, greatest-met, least-small, greatest-small}
 use Rattle.grid.specs.Limits.{mostCoordinate}
 use Rattle.mesh.specs.Mesh.{trianglesOf}
-use Rattle.mesh.specs.Check.{allWithin}
+use Rattle.mesh.specs.Check.{meshNumber}
 use Rattle.mesh.specs.declared.Place.{Place}
 use Rattle.mesh.specs.Place.{placeOf, Near}
 use Rattle.mesh.proofs.Places.{near-place}
+use Rattle.mesh.proofs.Passed.{passed}
 use Rattle.records.specs.declared.Shell.{Shell}
 use Rattle.shellnumbers.specs.Numbering.{numberOf, Numbering}
 use Rattle.records.specs.Record.{pointsUnder, recordFrom, recordOf}
@@ -114,10 +115,10 @@ module _ (points triangles marks found : List ℕ) where
       }
 
   -- in a mesh that passed no box goes beyond the limit
-  pub box-small : (n : ℕ) → allWithin mostCoordinate points ≡ true → Near (leastCorner (recordOf points triangles marks found n)) × Near (greatestCorner (recordOf points triangles marks found n))
+  pub box-small : meshNumber points triangles marks ≡ 0 → (n : ℕ) → Near (leastCorner (recordOf points triangles marks found n)) × Near (greatestCorner (recordOf points triangles marks found n))
   unfolding recordFrom
-  box-small n near =
-      let p : (q : ℕ) → Near (placeOf points q) = near-place points near in
+  box-small passes n =
+      let p : (q : ℕ) → Near (placeOf points q) = near-place points (passed points triangles marks passes .coordinates-fit) in
       let low : (v : ℕ → ℕ) → ((q : ℕ) → v q ≤ mostCoordinate) → leastOf v (pointsUnder (length marks) found n) ≤ mostCoordinate
       = λ v small. least-small v mostCoordinate small _ in
       let high : (v : ℕ → ℕ) → ((q : ℕ) → v q ≤ mostCoordinate) → greatestOf v (pointsUnder (length marks) found n) ≤ mostCoordinate

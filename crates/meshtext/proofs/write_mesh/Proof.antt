@@ -14,7 +14,8 @@ use Rattle.writing.specs.Writing.{outcome}
 use Rattle.writing.specs.declared.Written.{Written}
 use Rattle.shelllist.proofs.Ending.{given, none-given}
 use Rattle.shelllines.specs.ShellLines.{shellsText, longestShell}
-use Rattle.meshtext.specs.MeshText.{meshCounts, frontText, listsFit, Holds, frontWritten}
+use Rattle.meshtext.specs.MeshText.{meshCounts, frontText, listsFit, Holds}
+use Rattle.meshtext.specs.Front.{frontWritten}
 use Rattle.meshtext.proofs.Answers.{EW, RW, tyW, told}
 use Rattle.meshtext.proofs.Ending.{Promised, Checked, lists-refused, lists-fit, front-fits, records-fit, room-refused, tail-fits, mesh-written}
 use Rattle.meshtext.proofs.write_mesh.Code.Mir as mir
