@@ -1,34 +1,29 @@
 -- A granted shell list is right: no side leads out of a shell in it, and one whose record says that it touches no outer face has no marked point.
 use mathlib.Core.Path.{_≡_, refl, ap, sym, _∙_}
 use mathlib.Core.List.{List, [], _∷_, _++_}
-use mathlib.Core.Bool.{Bool, true, false, cond, _||_, true≢false, and-self, and-self-left}
+use mathlib.Core.Bool.{Bool, true, false, _||_, true≢false, and-self, and-self-left}
 use Prim.Native.Nat.{ℕ, zero, suc, _<_, _≤_}
 use native.Mathlib.Decide.{decLt}
 use native.Mathlib.Omega.{arith}
 use lib.Dec.{eqb}
 use lib.ListN.{length, getD, List·getD-eq-default}
-use borrow.Author.Tests.{eq-eqb, eqb-false}
+use borrow.Author.Tests.{eqb-false}
 use Rattle.laws.specs.Range.{keepTo, countTo}
-use Rattle.laws.specs.Room.{laid}
 use Rattle.laws.specs.Mesh.{Triangle, sides}
-use Rattle.laws.specs.Values.{listTo}
 use Rattle.laws.proofs.Ranges.{of-join, sum-cong, count-cong}
 use Rattle.laws.proofs.Tests.{is-none}
 use Rattle.laws.proofs.Keep.{rank-lt, at-rank, length-keep}
 use Rattle.laws.proofs.Sums.{all-append}
 use Rattle.laws.proofs.Sides.{sides-append}
-use Rattle.laws.proofs.Rooms.{length-laid}
-use Rattle.laws.proofs.Values.{length-list, laid-at}
 use Rattle.mesh.specs.Mesh.{triangleCount, triangleAt, trianglesOf}
-use Rattle.mesh.specs.Check.{trianglesFit, allWithin}
 use Rattle.records.specs.declared.Shell.{Shell}
 use Rattle.shellnumbers.specs.Numbering.{numberOf, Numbering}
 use Rattle.records.specs.Record.{anyOf, pointsUnder, namesUnder, trianglesUnder, recordFrom, recordOf}
-use Rattle.shellnumbers.specs.Lists.{Outcome, Lists, refused, crowded, granted}
-use Rattle.shelllist.specs.Promise.{recordsAfter, Shells}
+use Rattle.shellnumbers.specs.Lists.{Outcome}
+use Rattle.shelllist.specs.Promise.{Shells}
 use Rattle.mesh.proofs.Places.{within-any}
 use Rattle.mesh.proofs.Passed.{corners}
-use Rattle.shellnumbers.proofs.Sound.{passed}
+use Rattle.shelllist.proofs.Granted.{Granted, is-granted, as-long, record-at as stands-at}
 use Rattle.sets.proofs.Leading.{led-first, led-second}
 use Rattle.records.proofs.Lows.{ByLowest, by-lowest, lows-rise}
 use Rattle.records.proofs.Totals.{all-triangles}
@@ -36,13 +31,6 @@ use Rattle.records.proofs.OneNumber.{one-number}
 use Rattle.closed.specs.Left.{Mesh}
 use Rattle.closed.specs.Shell.{SidesStay, Unmarked}
 use Rattle.closed.specs.Listed.{recordAt, inShell, cornersIn, Right}
-
--- a granted call's numbering, that its records have room, and that the mesh passed
-record Given (m : Mesh) (room : ℕ) (o : Outcome) : Type 0 where
-  numbering : Numbering (trianglesOf (m .triangles)) (length (m .marks)) (o .numbers) (o .shells)
-  enough : o .shells ≤ room
-  corners-fit : trianglesFit (m .triangles) (length (m .marks)) ≡ true
-  marks-fit : allWithin 1 (m .marks) ≡ true
 
 -- where no element passes, one that stands in the list does not
 none-passes : {A : Type 0} (t : A → Bool) (xs : List A) (i : ℕ) (d : A) → anyOf t xs ≡ false → i < length xs → t (getD xs i d) ≡ false
@@ -58,20 +46,8 @@ none-passes t (x ∷ xs) i d h l = go (t x) refl i l h (λ j e k. none-passes t 
 
 module _ (m : Mesh) (numbers work : List ℕ) (room : List Shell) (o : Outcome) (after : List Shell)
     (shells : Shells (m .points) (m .triangles) (m .marks) numbers work room o after) (none : o .number ≡ 0) where
-  given : Given m (length room) o
-  given = go (shells .lists)
-    where
-      go : Lists (m .points) (m .triangles) (m .marks) (length room) numbers work o → Given m (length room) o
-      go (refused n e) = absurd (n (sym (ap (λ x. x .number) e) ∙ none))
-      go (crowded z f s N l e) = absurd (omega (arith, none, ap (λ x. x .number) e))
-      go (granted z f s N l e) =
-          let p = passed (m .points) (m .triangles) (m .marks) (length numbers) (length work) z in
-          record {
-            numbering = rw (ap (λ x. x .numbers) e, ap (λ x. x .shells) e) N;
-            enough = rw (ap (λ x. x .shells) e) l;
-            corners-fit = p .mesh .corners-fit;
-            marks-fit = p .mesh .marks-fit;
-          }
+  given : Granted (m .points) (m .triangles) (m .marks) numbers work room o
+  given = is-granted (m .points) (m .triangles) (m .marks) numbers work room o (shells .lists) none
 
   abbrev N : Numbering (trianglesOf (m .triangles)) (length (m .marks)) (o .numbers) (o .shells)
   N = given .numbering
@@ -79,25 +55,18 @@ module _ (m : Mesh) (numbers work : List ℕ) (room : List Shell) (o : Outcome) 
   abbrev record-of : ℕ → Shell
   record-of n = recordOf (m .points) (m .triangles) (m .marks) (o .numbers) n
 
-  -- the lent list after the call: the records laid over its front, so record n stands at n
-  laid-over : after ≡ laid (listTo (o .shells) record-of) room
-  unfolding recordsAfter
-  laid-over = shells .records ∙ ap (λ b. cond b (laid (listTo (o .shells) record-of) room) room) (eq-eqb (o .number) 0 none)
-
   record-at : (n : ℕ) → n < o .shells → recordAt after n ≡ record-of n
-  record-at n l = ap (λ xs. recordAt xs n) laid-over ∙ laid-at (o .shells) n record-of room _ l
+  record-at = stands-at (m .points) (m .triangles) (m .marks) numbers work room o after shells none
 
   held : o .shells ≤ length after
-  held =
-      let long = length-list (o .shells) record-of in
-      omega (arith, given .enough, long, ap length laid-over, length-laid (listTo (o .shells) record-of) room (omega (arith, long, given .enough)))
+  held = omega (arith, given .enough, as-long (m .points) (m .triangles) (m .marks) numbers work room o after shells none)
 
   -- the corners of a triangle stand under one shell
   under-one : (k : ℕ) → k < triangleCount (m .triangles) → let t = triangleAt (m .triangles) k in
       (numberOf (o .numbers) (t .one) ≡ numberOf (o .numbers) (t .two)) × (numberOf (o .numbers) (t .two) ≡ numberOf (o .numbers) (t .three))
   under-one k l =
       let t = triangleAt (m .triangles) k in
-      let c = corners (m .triangles) (length (m .marks)) k (given .corners-fit) l in (
+      let c = corners (m .triangles) (length (m .marks)) k (given .ok .mesh .corners-fit) l in (
         N .same (t .one) (t .two) (c .first) (c .second) (led-first (m .triangles) k l),
         N .same (t .two) (t .three) (c .second) (c .third) (led-second (m .triangles) k l),
       )
@@ -107,7 +76,7 @@ module _ (m : Mesh) (numbers work : List ℕ) (room : List Shell) (o : Outcome) 
       namesUnder (o .numbers) n t ≡ cornersIn (o .numbers) n t
   corners-agree n k l =
       let u = under-one k l in
-      one-number (m .triangles) (o .numbers) (length (m .marks)) (o .shells) (given .corners-fit) N n k l
+      one-number (m .triangles) (o .numbers) (length (m .marks)) (o .shells) (given .ok .mesh .corners-fit) N n k l
       ∙ rw (← (u .1), ← (u .0)) (let b = inShell (o .numbers) n (triangleAt (m .triangles) k .one) in sym (and-self-left b b ∙ and-self b))
 
   counts : (n : ℕ) → record-of n .triangles ≡ countTo (triangleCount (m .triangles)) (λ k. cornersIn (o .numbers) n (triangleAt (m .triangles) k))
@@ -134,7 +103,7 @@ module _ (m : Mesh) (numbers work : List ℕ) (room : List Shell) (o : Outcome) 
         counted = λ n l. rw (record-at n l) (counts n);
         all-counted =
             sum-cong (o .shells) _ _ (λ n l. ap (λ s. s .triangles) (record-at n l))
-            ∙ all-triangles (m .points) (m .triangles) (m .marks) (o .numbers) (o .shells) N (given .corners-fit);
+            ∙ all-triangles (m .points) (m .triangles) (m .marks) (o .numbers) (o .shells) N (given .ok .mesh .corners-fit);
       }
 
   -- no side leads out of a shell
@@ -161,7 +130,7 @@ module _ (m : Mesh) (numbers work : List ℕ) (room : List Shell) (o : Outcome) 
           (omega (arith, length-keep (length (m .marks)) (inShell (o .numbers) n), rank-lt (length (m .marks)) p (inShell (o .numbers) n) l here)) in
           let e = rw (at-rank (length (m .marks)) p (inShell (o .numbers) n) l here) at f in
           let d = eqb-false (getD (m .marks) p 0) 1 e in
-          not-one (getD (m .marks) p 0) (within-any 1 (m .marks) p (given .marks-fit)) d
+          not-one (getD (m .marks) p 0) (within-any 1 (m .marks) p (given .ok .mesh .marks-fit)) d
         where
           not-one : (k : ℕ) → k ≤ 1 → (k ≡ 1 → ⊥) → k ≡ 0
           not-one zero l d = refl

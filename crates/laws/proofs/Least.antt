@@ -4,6 +4,7 @@ use mathlib.Core.List.{List, [], _∷_, _++_, foldl, foldl-append}
 use mathlib.Core.Bool.{cond}
 use Prim.Native.Nat.{ℕ, suc, _<_, _≤_, min, max}
 use native.Mathlib.Decide.{decLt}
+use native.Mathlib.Nat.{le-of-lt, min-eq-left, min-eq-right, max-eq-left, max-eq-right, min-le-left, min-le-right, le-max-left, le-max-right}
 use native.Mathlib.Omega.{arith}
 use lib.Dec.{eqb}
 use lib.ListN.{length, getD}
@@ -30,15 +31,15 @@ min-has : (P : ℕ → Type 0) (a b : ℕ) → P a → P b → P (min a b)
 min-has P a b ha hb = go (decLt a b)
   where
     go : Dec (a < b) → P (min a b)
-    go (yes l) = let e : a ≡ min a b = omega arith in subst P e ha
-    go (no ge) = let e : b ≡ min a b = omega arith in subst P e hb
+    go (yes l) = subst P (sym (min-eq-left (le-of-lt l))) ha
+    go (no ge) = subst P (sym (min-eq-right (omega arith))) hb
 
 max-has : (P : ℕ → Type 0) (a b : ℕ) → P a → P b → P (max a b)
 max-has P a b ha hb = go (decLt a b)
   where
     go : Dec (a < b) → P (max a b)
-    go (yes l) = let e : b ≡ max a b = omega arith in subst P e hb
-    go (no ge) = let e : a ≡ max a b = omega arith in subst P e ha
+    go (yes l) = subst P (sym (max-eq-right (le-of-lt l))) hb
+    go (no ge) = subst P (sym (max-eq-left (omega arith))) ha
 
 -- as a bound
 module _ {A : Type 0} (v : A → ℕ) (most : ℕ) (small : (x : A) → v x ≤ most) where
@@ -96,9 +97,9 @@ module _ {A : Type 0} (v : A → ℕ) (d : A) (xs : List A) (i : ℕ) (l : i < l
   pub least-le : leastOf v xs ≤ v (getD xs i d)
   least-le =
       all-get (λ x. leastOf v xs ≤ v x) xs i d
-      (bounds min (λ a b. a ≤ b) (λ a. omega arith) (λ a b c h k. omega arith) (λ a b. omega arith) (λ a b. omega arith) v xs) l
+      (bounds min (λ a b. a ≤ b) (λ a. omega arith) (λ a b c h k. omega arith) min-le-left min-le-right v xs) l
 
   pub le-greatest : v (getD xs i d) ≤ greatestOf v xs
   le-greatest =
       all-get (λ x. v x ≤ greatestOf v xs) xs i d
-      (bounds max (λ a b. b ≤ a) (λ a. omega arith) (λ a b c h k. omega arith) (λ a b. omega arith) (λ a b. omega arith) v xs) l
+      (bounds max (λ a b. b ≤ a) (λ a. omega arith) (λ a b c h k. omega arith) le-max-left le-max-right v xs) l

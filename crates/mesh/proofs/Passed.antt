@@ -23,7 +23,28 @@ tests true true false d h = absurd (omega arith)
 tests true false c d h = absurd (omega arith)
 tests false b c d h = absurd (omega arith)
 
+-- 6: three numbers a point and three a triangle, within the limits
+pub record Lengths (points triangles v : ℕ) : Type 0 where
+  pub threes : points ≡ 3 * v
+  pub whole : triangles ≡ 3 * (triangles / 3)
+  pub few : v ≤ mostPoints
+  pub triangles-few : triangles / 3 ≤ mostTriangles
+
+pub lengths-are : (points triangles v : ℕ) → lengthsFit points triangles v ≡ true → Lengths points triangles v
+unfolding lengthsFit
+lengths-are points triangles v h =
+    let a = both (eqb points (3 * v)) _ h in
+    let b = both (eqb (triangles % 3) 0) _ (a .1) in
+    let c = both (leb v mostPoints) (leb (triangles / 3) mostTriangles) (b .1) in
+    record {
+      threes = eqb-true points (3 * v) (a .0);
+      whole = omega (arith, eqb-true (triangles % 3) 0 (b .0));
+      few = leb-true v mostPoints (c .0);
+      triangles-few = leb-true (triangles / 3) mostTriangles (c .1);
+    }
+
 pub record Passed (points triangles marks : List ℕ) : Type 0 where
+  pub lengths-fit : lengthsFit (length points) (length triangles) (length marks) ≡ true
   pub threes : length points ≡ 3 * length marks
   pub whole : length triangles ≡ 3 * triangleCount triangles
   pub few : length marks ≤ mostPoints
@@ -55,22 +76,20 @@ corners triangles v k h l =
     corners-of v (triangleAt triangles k) (all-at (triangleCount triangles) (λ i. namesThree v (triangleAt triangles i)) h k l)
 
 pub passed : (points triangles marks : List ℕ) → meshNumber points triangles marks ≡ 0 → Passed points triangles marks
-unfolding meshNumber lengthsFit trianglesFit allWithin
+unfolding meshNumber trianglesFit allWithin
 passed points triangles marks h =
     let t = tests (lengthsFit (length points) (length triangles) (length marks)) (trianglesFit triangles (length marks)) (allWithin mostCoordinate points) (allWithin 1 marks) h in
-    let a = both (eqb (length points) (3 * length marks)) _ (t .0) in
-    let b = both (eqb (length triangles % 3) 0) _ (a .1) in
-    let c = both (leb (length marks) mostPoints) (leb (triangleCount triangles) mostTriangles) (b .1) in
-    let threes : length triangles ≡ 3 * triangleCount triangles = omega (arith, eqb-true (length triangles % 3) 0 (b .0)) in
+    let l = lengths-are (length points) (length triangles) (length marks) (t .0) in
     record {
-      threes = eqb-true (length points) (3 * length marks) (a .0);
-      whole = threes;
-      few = leb-true (length marks) mostPoints (c .0);
-      triangles-few = leb-true (triangleCount triangles) mostTriangles (c .1);
+      lengths-fit = t .0;
+      threes = l .threes;
+      whole = l .whole;
+      few = l .few;
+      triangles-few = l .triangles-few;
       corners-fit = t .1;
       coordinates-fit = t .2;
       marks-fit = t .3;
-      named = λ k l. corner (t .1) (k / 3) (k % 3) k (omega arith) (omega arith) (omega (arith, threes));
+      named = λ k s. corner (t .1) (k / 3) (k % 3) k (omega arith) (omega arith) (omega (arith, l .whole));
       small = λ i. within-any mostCoordinate points i (t .2);
     }
   where

@@ -1,7 +1,7 @@
 -- The ways that the writing of a mesh ends, from what the parts of it say.
 use mathlib.Core.Path.{_≡_, refl, ap, _∙_}
 use mathlib.Core.List.{List}
-use mathlib.Core.Bool.{Bool, true, false, cond, _&&_}
+use mathlib.Core.Bool.{Bool, true, false, cond}
 use Prim.Native.Nat.{ℕ, _+_, _/_, _≤_, _<_}
 use native.Mathlib.Omega.{arith}
 use lib.Dec.{eqb, leb, ltb}
@@ -62,19 +62,20 @@ module _ (points edges marks triangles : List ℕ) (records : List Shell) (shell
           absurd (omega (arith, six, none-given))
 
   module _ (fit : fits ≡ true) where
-    pub front-fits : FrontFits points edges marks triangles
+    -- its parts, in their order
+    parts : (lengthsFit (length points) (length triangles) (length marks) ≡ true) × (eqb (length edges) (length marks) ≡ true) × (leb shells (length records) ≡ true) × (leb shells mostPoints ≡ true)
     unfolding listsFit
-    front-fits =
-        let a = both (lengthsFit (length points) (length triangles) (length marks)) (eqb (length edges) (length marks) && (leb shells (length records) && leb shells mostPoints)) fit in
-        record { lengths = a .0; edged = eqb-true (length edges) (length marks) (both (eqb (length edges) (length marks)) (leb shells (length records) && leb shells mostPoints) (a .1) .0) }
+    parts =
+        let a = both (lengthsFit (length points) (length triangles) (length marks)) _ fit in
+        let b = both (eqb (length edges) (length marks)) _ (a .1) in
+        let c = both (leb shells (length records)) (leb shells mostPoints) (b .1) in
+        (a .0, b .0, c .0, c .1)
+
+    pub front-fits : FrontFits points edges marks triangles
+    front-fits = record { lengths = parts .0; edged = eqb-true (length edges) (length marks) (parts .1) }
 
     pub records-fit : (shells ≤ length records) × (shells ≤ mostPoints)
-    unfolding listsFit
-    records-fit =
-        let a = both (lengthsFit (length points) (length triangles) (length marks)) (eqb (length edges) (length marks) && (leb shells (length records) && leb shells mostPoints)) fit in
-        let b = both (eqb (length edges) (length marks)) (leb shells (length records) && leb shells mostPoints) (a .1) in
-        let c = both (leb shells (length records)) (leb shells mostPoints) (b .1) in
-        (leb-true shells (length records) (c .0), leb-true shells mostPoints (c .1))
+    records-fit = (leb-true shells (length records) (parts .2), leb-true shells mostPoints (parts .3))
 
     -- the lines before those of the shells, and how long the shells' are
     module _ (r : Written) (left : List ℕ) (more : ℕ) (long : more ≡ length tail) (said : outcome (r .number) (r .length) left ≡ frontWritten front more room) where

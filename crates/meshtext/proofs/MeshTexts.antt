@@ -1,17 +1,14 @@
 -- The text of a mesh: its lists, its length, and its parts one after the other.
 use mathlib.Core.Path.{_≡_, ap, _∙_}
 use mathlib.Core.List.{List, _++_}
-use mathlib.Core.Bool.{true, _&&_}
-use Prim.Native.Nat.{ℕ, _+_, _*_, _/_, _%_, _≤_, _<_}
+use Prim.Native.Nat.{ℕ, _+_, _*_, _/_, _≤_, _<_}
 use native.Mathlib.Omega.{arith}
-use lib.Dec.{eqb, leb}
 use lib.ListN.{length, length-append}
 use lib.Seq.{sets}
-use borrow.Author.Tests.{eqb-true, leb-true, lt-ltb, le-ltb}
-use Rattle.laws.proofs.Tests.{both}
+use borrow.Author.Tests.{lt-ltb, le-ltb}
 use Rattle.laws.proofs.Writes.{sets-append}
 use Rattle.grid.specs.Limits.{mostPoints, mostTriangles}
-use Rattle.mesh.specs.Check.{lengthsFit}
+use Rattle.mesh.proofs.Passed.{lengths-are}
 use Rattle.lines.specs.Line.{fields, lettered}
 use Rattle.meshlines.specs.MeshLines.{pointsText, trianglesText}
 use Rattle.writing.specs.Writing.{outcome}
@@ -21,18 +18,12 @@ use Rattle.writing.proofs.Fields.{lettered-length}
 use Rattle.records.specs.declared.Shell.{Shell}
 use Rattle.shelllines.proofs.ShellTexts.{shells-same}
 
--- the lengths of a mesh's lists
-pub lengths-fit : (p t m : ℕ) → lengthsFit p t m ≡ true → (p ≡ 3 * m) × (m ≤ mostPoints) × (t / 3 ≤ mostTriangles)
-unfolding lengthsFit
-lengths-fit p t m h =
-    let a = both (eqb p (3 * m)) (eqb (t % 3) 0 && (leb m mostPoints && leb (t / 3) mostTriangles)) h in
-    let b = both (eqb (t % 3) 0) (leb m mostPoints && leb (t / 3) mostTriangles) (a .1) in
-    let c = both (leb m mostPoints) (leb (t / 3) mostTriangles) (b .1) in
-    (eqb-true p (3 * m) (a .0), leb-true m mostPoints (c .0), leb-true (t / 3) mostTriangles (c .1))
-
+-- the lengths of the lists that are written
 pub front-fits : (points edges marks triangles : List ℕ) → FrontFits points edges marks triangles
     → (length points ≡ 3 * length marks) × (length edges ≡ length marks) × (length marks ≤ mostPoints) × (length triangles / 3 ≤ mostTriangles)
-front-fits points edges marks triangles f = let l = lengths-fit (length points) (length triangles) (length marks) (f .lengths) in (l .0, f .edged, l .1, l .2)
+front-fits points edges marks triangles f =
+    let l = lengths-are (length points) (length triangles) (length marks) (f .lengths) in
+    (l .threes, f .edged, l .few, l .triangles-few)
 
 -- the lines before those of the shells
 module _ (counts points edges marks triangles : List ℕ) where

@@ -25,7 +25,8 @@ fn write_records(
 ) -> Written
     ensures { λ r.
         let after = outcome (r .number) (r .length) (now (output .exit)) in
-        ⌜ ListsAndWrites (now (points .entry)) (now (edges .entry)) (now (marks .entry)) (now (triangles .entry)) (now (numbers .entry)) (now (work .entry)) (now (output .entry)) after ⌝ }
+        ⌜ ListsAndWrites (now (points .entry)) (now (edges .entry)) (now (marks .entry)) (now (triangles .entry)) (now (numbers .entry)) (now (work .entry)) (now (output .entry))
+        (now (numbers .exit)) (now (work .exit)) after ⌝ }
 {
     let mut records = [records::blank(); MOST_SMALL_POINTS];
     let listed = shells::shells(points, triangles, marks, numbers, &mut records, work);

@@ -4,7 +4,7 @@
 --     copies           a record is copied by reading it
 --     Mut              as `Slices.antt` has it
 -- No line here names a field. Assumes nothing.
-use mathlib.Core.Path.{_≡_, ap, subst}
+use mathlib.Core.Path.{_≡_, ap}
 use Prim.Native.Nat.{ℕ}
 use mathlib.Core.List.{List, [], _∷_}
 use lib.Dec.{T as Holds}
@@ -26,7 +26,7 @@ use Rattle.records.proofs.Shell.Laws as T′
 use Rattle.shellnumbers.proofs.Listed as L
 use Rattle.shellnumbers.proofs.Listed.Laws as L′
 use Rattle.walks.proofs.Slices as S
-use Rattle.walks.proofs.Slices.{Elem, struct-elem}
+use Rattle.walks.proofs.Slices.{Elem, struct-elem, told}
 
 abbrev pub E : Elem
 E = struct-elem T.the-type T′.the-laws T′.the-plain none
@@ -65,7 +65,7 @@ pub same : (h : Shell) (v : Val) → Is R h (v ∷ []) → v ≡ mach h
 same h v is = ap only (tells h (v ∷ []) is)
 
 pub is-of : (h : Shell) (v : Val) → Is R h (v ∷ []) → Is R h (vals h)
-is-of h v is = subst (Is R h) (tells h (v ∷ []) is) is
+is-of h v is = told E h v is
 
 abbrev pub Mut : Lft → GName → ℕ → ℕ → ℕ → List Shell → Fml
 Mut κ γ b o m l = S.Mut E κ γ b o m l

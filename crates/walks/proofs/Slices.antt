@@ -75,6 +75,10 @@ uint-elem w = record {
   none = 0;
 }
 
+-- a machine value that the row relates to a value is the value's own
+pub told : (E : Elem) (h : E .R .Denot) (v : Val) → Is (E .R) h (v ∷ []) → Is (E .R) h (E .val h ∷ [])
+told E h v is = subst (Is (E .R) h) (E .tells h (v ∷ []) is) is
+
 -- ---- the references, and the place of an element
 module _ (E : Elem) where
   abbrev X : Type 0

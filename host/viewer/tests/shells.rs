@@ -268,33 +268,24 @@ fn all_points_in_one_place() {
     }
 }
 
-/// Two triangles, the second within the first one's box, and two points by themselves. Point 1, the lowest of the first triangle, is at none of its extremes.
+/// A void of 5 samples a side with an island of one sample in its middle, whose box lies within the void's.
 #[test]
 fn a_shell_within_the_box_of_another() {
-    let mesh = Caller {
-        points: [
-            [7, 16_128, 0],
-            [500, 600, 700],
-            [450, 550, 710],
-            [100, 900, 650],
-            [800, 200, 750],
-            [460, 540, 720],
-            [470, 530, 715],
-            [500, 600, 700],
-        ]
-        .concat(),
-        triangles: vec![4, 3, 1, 2, 6, 5],
-        marks: vec![0; 8],
-    };
-    let (count, _, records) = same(&mesh);
-    let found: Vec<_> = records[..count as usize].iter().map(extents).collect();
-    let wanted = [
-        [[7, 7], [16_128, 16_128], [0, 0]],
-        [[100, 800], [200, 900], [650, 750]],
-        [[450, 470], [530, 550], [710, 720]],
-        [[500, 500], [600, 600], [700, 700]],
-    ];
-    assert_eq!(found, wanted);
+    let mut samples = vec![1000; 9 * 9 * 9];
+    for z in 2..=6 {
+        for y in 2..=6 {
+            for x in 2..=6 {
+                samples[x + 9 * (y + 9 * z)] = 0;
+            }
+        }
+    }
+    samples[4 + 9 * (4 + 9 * 4)] = 1000;
+    let (count, _, records) = same(&tools::mesh_of([9; 3], 500, &samples));
+    assert_eq!(count, 2);
+    let [void, island] = [records[0], records[1]];
+    assert!(void.volume < 0 && island.volume > 0);
+    assert_eq!(extents(&void), [[384, 1664]; 3]);
+    assert_eq!(extents(&island), [[896, 1152]; 3]);
 }
 
 #[test]

@@ -3,7 +3,7 @@
 use Rattle.walks.proofs.Walk.{_≡_, refl, _∙_, ap, ℕ, _+_, _<_, _≤_, _^_, List, [], _∷_, length, getD, lit<, URA, fullShare, named, erased, imm, mut, w8, w32, w64, tyInt, tyBool, tyRef, Val, vint, SProp, ent, emp, id⊢, via, fst∗, Lft, Share, GName, Fml, ftrue, fat, flft, Memory, Routine, Heap, Env, Calls, Loops, WpFn, Tables, Atoms, Fun, fact, givenOf, tables, tablesOf, Given, ‵, raw, _⊛_, ⋆, some, later, atRet, _$_, _∵_, !, qed, by, move, keep, drop, use1, use2, split, join, pick, rewrite, fsplit, fjoin, feqL, suffices, frame, await, done, look, init, store, forget, stop, hop, fld, from, load, lit, of-opd, bin, addr, and-then, no-more, assigns, land, first, skips, branches, exec, returns, returns-within, enter, alloc1, alloc0, params1, pass1, pass0, free1, free0, agg, whole, sub, look-in, FmC, fmOf, WpFn-mono, owns, Is, shows, uint-makes, uint-vals, uint-tells, uint-lawful, u8, u32, usize, RefT, sliceTy, sliceVal, MutSlice, ShrSlice, Room, slice-vals, mut-slice-tells, shr-slice-tells, shr-slice-copy, only, owned, peeks, heard, nothing, onEntry, Meets, tripleOf, Contract, Triple, calls-at, ensured, lasts, entered, cited, says, Stays, stay-none, stay-slice, stay-none-slice, walkOf, goes-none, goes-slice, goes-none-slice, Walks, ends-at, walked, walk-meets, yes, plain}
 use Prim.Native.Nat.{_*_}
 use denote.Memory.{pointee}
-use Rattle.walks.proofs.Slices.{uint-elem, Mut as MutOf, ref as refOf, lends, comes}
+use Rattle.walks.proofs.Slices.{uint-elem, told, Mut as MutOf, ref as refOf, lends, comes}
 use Rattle.shells.proofs.Records.{R, typed}
 use mathlib.Core.Bool.{true}
 use Prim.Native.Nat.{_/_}
@@ -12,11 +12,11 @@ use Rattle.records.specs.declared.Shell.{Shell}
 use Rattle.records.specs.Grown.{none}
 use Rattle.writing.specs.Writing.{outcome}
 use Rattle.writing.specs.declared.Written.{Written}
-use Rattle.shelllist.proofs.Ending.{given, none-given}
+use Rattle.walks.proofs.Tested.{given, none-given}
 use Rattle.shelllines.specs.ShellLines.{shellsText, longestShell}
 use Rattle.meshtext.specs.MeshText.{meshCounts, frontText, listsFit, Holds}
 use Rattle.meshtext.specs.Front.{frontWritten}
-use Rattle.meshtext.proofs.Answers.{EW, RW, tyW, told}
+use Rattle.meshtext.proofs.Answers.{EW, RW, tyW}
 use Rattle.meshtext.proofs.Ending.{Promised, Checked, lists-refused, lists-fit, front-fits, records-fit, room-refused, tail-fits, mesh-written}
 use Rattle.meshtext.proofs.write_mesh.Code.Mir as mir
 use Rattle.meshtext.proofs.check_lists as check-lists
@@ -241,9 +241,9 @@ module _ {M : Type 1} (𝓤 : URA M) (H : Heap 𝓤) (A : Atoms 𝓤) (W : Given
         land ! (from ! (stop !)) (init ! 40 refl (EW .lawful 𝓤 H A W .typed r1 _ is-r1 .0)) $ rewrite ! 40 (λ (u : Val). ‵ (fat fullShare (tyW) l₈ 0 u)) (ap only (EW .tells r1 (w-r1 ∷ []) is-r1)) refl $ drop ! $ drop ! $
         assigns ! (bin ! (load ! (from ! (fld ! refl (stop !))) (look-in ! 38 (sub ! 0 refl (whole !)))) (lit ! tt) tt) (from ! (stop !)) (init ! 20 refl (tt, tt)) $
         first ! $ branches ! (load ! (from ! (stop !)) (look ! 20 refl))
-        (λ some-given. assigns ! (of-opd ! (load ! (from ! (stop !)) (look ! 38 refl))) (from ! (stop !)) (init ! 54 refl (EW .lawful 𝓤 H A W .typed r1 _ (told r1 w-r1 is-r1) .0)) $
+        (λ some-given. assigns ! (of-opd ! (load ! (from ! (stop !)) (look ! 38 refl))) (from ! (stop !)) (init ! 54 refl (EW .lawful 𝓤 H A W .typed r1 _ (told EW r1 w-r1 is-r1) .0)) $
         returns-within ! Post refl (look ! 54 refl) $ forget ! 54 refl $ forget ! 52 refl $ forget ! 50 refl $ forget ! 48 refl $ forget ! 46 refl $ forget ! 44 refl $ forget ! 42 refl $ forget ! 40 refl $ forget ! 38 refl $ forget ! 30 refl $ forget ! 28 refl $ forget ! 26 refl $ forget ! 24 refl $ forget ! 22 refl $ forget ! 20 refl $
-        move ! (54 ∷ 55 ∷ []) $ free1 ! $ move ! (52 ∷ 53 ∷ []) $ free1 ! $ move ! (50 ∷ 51 ∷ []) $ free1 ! $ move ! (48 ∷ 49 ∷ []) $ free1 ! $ move ! (46 ∷ 47 ∷ []) $ free1 ! $ move ! (44 ∷ 45 ∷ []) $ free1 ! $ move ! (42 ∷ 43 ∷ []) $ free1 ! $ move ! (40 ∷ 41 ∷ []) $ free1 ! $ move ! (38 ∷ 39 ∷ []) $ free1 ! $ move ! (36 ∷ 37 ∷ []) $ free1 ! $ move ! (34 ∷ 35 ∷ []) $ free1 ! $ move ! (32 ∷ 33 ∷ []) $ free1 ! $ move ! (30 ∷ 31 ∷ []) $ free1 ! $ move ! (28 ∷ 29 ∷ []) $ free1 ! $ move ! (26 ∷ 27 ∷ []) $ free1 ! $ move ! (24 ∷ 25 ∷ []) $ free1 ! $ move ! (22 ∷ 23 ∷ []) $ free1 ! $ move ! (20 ∷ 21 ∷ []) $ free1 ! $ move ! (18 ∷ 19 ∷ []) $ free1 ! $ move ! (16 ∷ 17 ∷ []) $ free1 ! $ move ! (14 ∷ 15 ∷ []) $ free1 ! $ move ! (12 ∷ 13 ∷ []) $ free1 ! $ free0 ! $ keep ! (0 ∷ 1 ∷ 2 ∷ 3 ∷ 4 ∷ 5 ∷ 6 ∷ 7 ∷ 8 ∷ 9 ∷ 10 ∷ 11 ∷ []) $ by ! (exits r1 room (lists-refused points edges marks triangles ys shells room r1 e-r1 (given (r1 .number) some-given)) refl (told r1 w-r1 is-r1)))
+        move ! (54 ∷ 55 ∷ []) $ free1 ! $ move ! (52 ∷ 53 ∷ []) $ free1 ! $ move ! (50 ∷ 51 ∷ []) $ free1 ! $ move ! (48 ∷ 49 ∷ []) $ free1 ! $ move ! (46 ∷ 47 ∷ []) $ free1 ! $ move ! (44 ∷ 45 ∷ []) $ free1 ! $ move ! (42 ∷ 43 ∷ []) $ free1 ! $ move ! (40 ∷ 41 ∷ []) $ free1 ! $ move ! (38 ∷ 39 ∷ []) $ free1 ! $ move ! (36 ∷ 37 ∷ []) $ free1 ! $ move ! (34 ∷ 35 ∷ []) $ free1 ! $ move ! (32 ∷ 33 ∷ []) $ free1 ! $ move ! (30 ∷ 31 ∷ []) $ free1 ! $ move ! (28 ∷ 29 ∷ []) $ free1 ! $ move ! (26 ∷ 27 ∷ []) $ free1 ! $ move ! (24 ∷ 25 ∷ []) $ free1 ! $ move ! (22 ∷ 23 ∷ []) $ free1 ! $ move ! (20 ∷ 21 ∷ []) $ free1 ! $ move ! (18 ∷ 19 ∷ []) $ free1 ! $ move ! (16 ∷ 17 ∷ []) $ free1 ! $ move ! (14 ∷ 15 ∷ []) $ free1 ! $ move ! (12 ∷ 13 ∷ []) $ free1 ! $ free0 ! $ keep ! (0 ∷ 1 ∷ 2 ∷ 3 ∷ 4 ∷ 5 ∷ 6 ∷ 7 ∷ 8 ∷ 9 ∷ 10 ∷ 11 ∷ []) $ by ! (exits r1 room (lists-refused points edges marks triangles ys shells room r1 e-r1 (given (r1 .number) some-given)) refl (told EW r1 w-r1 is-r1)))
         (λ none-yet. skips ! $ exec ! C Λ (En l₀ l₁ l₂ l₃ l₄ l₅ l₆ l₇ l₈ l₉ l₁₀ l₁₁ l₁₂ l₁₃ l₁₄ l₁₅ l₁₆ l₁₇ l₁₈ l₁₉ l₂₀ l₂₁) mir.t-9 (atRet (En l₀ l₁ l₂ l₃ l₄ l₅ l₆ l₇ l₈ l₉ l₁₀ l₁₁ l₁₂ l₁₃ l₁₄ l₁₅ l₁₆ l₁₇ l₁₈ l₁₉ l₂₀ l₂₁) Post) $
         move ! (4 ∷ []) $ use1 W (‵ O-ys ⊛ ‵ O-ys) (shr-slice-copy 𝓤 H A W (named 4) κ4 R .twice x-ys _) $ split ! $ nothing ! $ move ! (12 ∷ 0 ∷ []) $ join ! $ nothing ! $ owned ! usize (Is usize) (uint-makes 𝓤 H A W w64) shells _ (refl, shells-fits) $ fjoin ! $ move ! (2 ∷ 0 ∷ []) $ fjoin ! $ move ! (1 ∷ 0 ∷ []) $
         use2 W (raw (ShellsLength 𝓤 H A mem run .pre to-length)) (asked-length (lists-fit points edges marks triangles ys shells room r1 e-r1 (none-given (r1 .number) none-yet))) $
@@ -265,9 +265,9 @@ module _ {M : Type 1} (𝓤 : URA M) (H : Heap 𝓤) (A : Atoms 𝓤) (W : Given
         move ! (0 ∷ 6 ∷ 7 ∷ 8 ∷ 9 ∷ 5 ∷ []) $ comes ! (uint-elem w8) tt (length room) room (z-r3 .1 .1 .1 .1 .1 .1 .0) b-room o-room refl room-room l-room-r3 $
         move ! (9 ∷ 8 ∷ 7 ∷ 6 ∷ 10 ∷ 0 ∷ 5 ∷ 4 ∷ 3 ∷ 2 ∷ 11 ∷ 1 ∷ []) $ assigns ! (bin ! (load ! (from ! (fld ! refl (stop !))) (look-in ! 34 (sub ! 0 refl (whole !)))) (lit ! tt) tt) (from ! (stop !)) (store ! 20 refl (tt, tt)) $
         first ! $ branches ! (load ! (from ! (stop !)) (look ! 20 refl))
-        (λ some-given. assigns ! (of-opd ! (load ! (from ! (stop !)) (look ! 34 refl))) (from ! (stop !)) (init ! 54 refl (EW .lawful 𝓤 H A W .typed r3 _ (told r3 w-r3 is-r3) .0)) $
+        (λ some-given. assigns ! (of-opd ! (load ! (from ! (stop !)) (look ! 34 refl))) (from ! (stop !)) (init ! 54 refl (EW .lawful 𝓤 H A W .typed r3 _ (told EW r3 w-r3 is-r3) .0)) $
         returns-within ! Post refl (look ! 54 refl) $ forget ! 54 refl $ forget ! 52 refl $ forget ! 50 refl $ forget ! 48 refl $ forget ! 46 refl $ forget ! 44 refl $ forget ! 42 refl $ forget ! 40 refl $ forget ! 38 refl $ forget ! 36 refl $ forget ! 34 refl $ forget ! 30 refl $ forget ! 28 refl $ forget ! 26 refl $ forget ! 24 refl $ forget ! 22 refl $ forget ! 20 refl $ forget ! 18 refl $ forget ! 16 refl $
-        move ! (54 ∷ 55 ∷ []) $ free1 ! $ move ! (52 ∷ 53 ∷ []) $ free1 ! $ move ! (50 ∷ 51 ∷ []) $ free1 ! $ move ! (48 ∷ 49 ∷ []) $ free1 ! $ move ! (46 ∷ 47 ∷ []) $ free1 ! $ move ! (44 ∷ 45 ∷ []) $ free1 ! $ move ! (42 ∷ 43 ∷ []) $ free1 ! $ move ! (40 ∷ 41 ∷ []) $ free1 ! $ move ! (38 ∷ 39 ∷ []) $ free1 ! $ move ! (36 ∷ 37 ∷ []) $ free1 ! $ move ! (34 ∷ 35 ∷ []) $ free1 ! $ move ! (32 ∷ 33 ∷ []) $ free1 ! $ move ! (30 ∷ 31 ∷ []) $ free1 ! $ move ! (28 ∷ 29 ∷ []) $ free1 ! $ move ! (26 ∷ 27 ∷ []) $ free1 ! $ move ! (24 ∷ 25 ∷ []) $ free1 ! $ move ! (22 ∷ 23 ∷ []) $ free1 ! $ move ! (20 ∷ 21 ∷ []) $ free1 ! $ move ! (18 ∷ 19 ∷ []) $ free1 ! $ move ! (16 ∷ 17 ∷ []) $ free1 ! $ move ! (14 ∷ 15 ∷ []) $ free1 ! $ move ! (12 ∷ 13 ∷ []) $ free1 ! $ free0 ! $ keep ! (0 ∷ 1 ∷ 2 ∷ 3 ∷ 4 ∷ 5 ∷ 6 ∷ 7 ∷ 8 ∷ 9 ∷ 10 ∷ 11 ∷ []) $ by ! (exits r3 (z-r3 .1 .1 .1 .1 .1 .1 .0) (room-refused points edges marks triangles ys shells room (lists-fit points edges marks triangles ys shells room r1 e-r1 (none-given (r1 .number) none-yet)) r3 (z-r3 .1 .1 .1 .1 .1 .1 .0) r2 (e-r2 .0) (e-r3 .1) (e-r3 .0) (given (r3 .number) some-given)) l-room-r3 (told r3 w-r3 is-r3)))
+        move ! (54 ∷ 55 ∷ []) $ free1 ! $ move ! (52 ∷ 53 ∷ []) $ free1 ! $ move ! (50 ∷ 51 ∷ []) $ free1 ! $ move ! (48 ∷ 49 ∷ []) $ free1 ! $ move ! (46 ∷ 47 ∷ []) $ free1 ! $ move ! (44 ∷ 45 ∷ []) $ free1 ! $ move ! (42 ∷ 43 ∷ []) $ free1 ! $ move ! (40 ∷ 41 ∷ []) $ free1 ! $ move ! (38 ∷ 39 ∷ []) $ free1 ! $ move ! (36 ∷ 37 ∷ []) $ free1 ! $ move ! (34 ∷ 35 ∷ []) $ free1 ! $ move ! (32 ∷ 33 ∷ []) $ free1 ! $ move ! (30 ∷ 31 ∷ []) $ free1 ! $ move ! (28 ∷ 29 ∷ []) $ free1 ! $ move ! (26 ∷ 27 ∷ []) $ free1 ! $ move ! (24 ∷ 25 ∷ []) $ free1 ! $ move ! (22 ∷ 23 ∷ []) $ free1 ! $ move ! (20 ∷ 21 ∷ []) $ free1 ! $ move ! (18 ∷ 19 ∷ []) $ free1 ! $ move ! (16 ∷ 17 ∷ []) $ free1 ! $ move ! (14 ∷ 15 ∷ []) $ free1 ! $ move ! (12 ∷ 13 ∷ []) $ free1 ! $ free0 ! $ keep ! (0 ∷ 1 ∷ 2 ∷ 3 ∷ 4 ∷ 5 ∷ 6 ∷ 7 ∷ 8 ∷ 9 ∷ 10 ∷ 11 ∷ []) $ by ! (exits r3 (z-r3 .1 .1 .1 .1 .1 .1 .0) (room-refused points edges marks triangles ys shells room (lists-fit points edges marks triangles ys shells room r1 e-r1 (none-given (r1 .number) none-yet)) r3 (z-r3 .1 .1 .1 .1 .1 .1 .0) r2 (e-r2 .0) (e-r3 .1) (e-r3 .0) (given (r3 .number) some-given)) l-room-r3 (told EW r3 w-r3 is-r3)))
         (λ none-short. skips ! $ exec ! C Λ (En l₀ l₁ l₂ l₃ l₄ l₅ l₆ l₇ l₈ l₉ l₁₀ l₁₁ l₁₂ l₁₃ l₁₄ l₁₅ l₁₆ l₁₇ l₁₈ l₁₉ l₂₀ l₂₁) mir.t-15 (atRet (En l₀ l₁ l₂ l₃ l₄ l₅ l₆ l₇ l₈ l₉ l₁₀ l₁₁ l₁₂ l₁₃ l₁₄ l₁₅ l₁₆ l₁₇ l₁₈ l₁₉ l₂₀ l₂₁) Post) $
         assigns ! (addr ! (from ! (fld ! refl (hop ! (look-in ! 40 (sub ! 0 refl (whole !))) (stop !))))) (from ! (stop !)) (init ! 14 refl (tt, tt)) $
         assigns ! (agg ! (and-then ! (load ! (from ! (stop !)) (look ! 14 refl)) (and-then ! (load ! (from ! (fld ! refl (stop !))) (look-in ! 40 (sub ! 1 refl (whole !)))) (no-more !)))) (from ! (stop !)) (init ! 12 refl (tt, (tt, (record { fits = room-room .0 }, tt)))) $

@@ -52,7 +52,7 @@ returns c =
     let w = c .before .before .before .before in
     let l = w .before .before .before .before in
     let s = l .before .before .before .before .before .before .before in
-    mesh-printed _ _ _ _ _ _ _ (s .pre) (whole (l .before)) (twice l) _ (w .write-records .ensures)
+    mesh-printed _ _ _ _ _ _ _ _ _ (s .pre) (whole (l .before)) (twice l) _ (w .write-records .ensures)
 
 pub write-listed-spec : {M : Type 1} → statement M
 write-listed-spec =

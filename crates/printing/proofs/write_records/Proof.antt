@@ -1,7 +1,7 @@
 -- `printing::write_records` meets its contract: a walk of its MIR, by hand. An array of blank records is lent to `shells::shells`, comes back, and is lent to `meshtext::write_mesh` as it then is.
 -- Assumes nothing.
 use Rattle.walks.proofs.Walk.{_≡_, refl, _∙_, ap, subst, ℕ, _<_, _^_, List, [], _∷_, length, lit<, URA, fullShare, named, w8, w32, w64, Val, vint, SProp, ent, emp, id⊢, via, fst∗, Lft, Share, GName, Fml, ftrue, fat, flft, Memory, Routine, Heap, Calls, Loops, WpFn, Tables, Atoms, Fun, fact, givenOf, tables, tablesOf, Given, ‵, raw, _⊛_, ⋆, some, later, _$_, _∵_, !, qed, by, move, keep, drop, use1, use2, split, join, pick, rewrite, fsplit, fjoin, feqL, suffices, frame, await, done, look, init, forget, stop, hop, fld, from, load, addr, and-then, no-more, assigns, land, returns, enter, alloc1, alloc0, params1, pass1, pass0, free1, free0, agg, whole, sub, look-in, FmC, fmOf, WpFn-mono, owns, Is, shows, uint-makes, u8, u32, usize, RefT, sliceVal, MutSlice, ShrSlice, Room, slice-vals, mut-slice-tells, shr-slice-tells, shr-slice-copy, only, owned, peeks, heard, nothing, onEntry, Meets, tripleOf, Contract, Triple, calls-at, ensured, lasts, entered, cited, says, Stays, stay-slice, stay-none-slice, walkOf, goes-slice, goes-none-slice, Walks, ends-at, walked, walk-meets, yes, plain}
-use Rattle.walks.proofs.Slices.{uint-elem, Mut as MutOf, ref as refOf, lends, comes, lends-row, row-back, shares-row, row-same}
+use Rattle.walks.proofs.Slices.{uint-elem, told, Mut as MutOf, ref as refOf, lends, comes, lends-row, row-back, shares-row, row-same}
 use Rattle.walks.proofs.Lent.{big-lit, typed-repeat, spreads, gathers}
 use Rattle.shells.proofs.Records.{E, R, ty, EL, RL, tyL, mach, vals as vals-of, typed, same, is-of}
 use Prim.Native.Nat.{_/_}
@@ -15,7 +15,7 @@ use Rattle.shelllist.specs.Promise.{Shells}
 use Rattle.writing.specs.Writing.{outcome}
 use Rattle.writing.specs.declared.Written.{Written}
 use Rattle.meshtext.specs.MeshText.{Holds, meshWritten}
-use Rattle.meshtext.proofs.Answers.{EW, RW, tyW, told}
+use Rattle.meshtext.proofs.Answers.{EW, RW, tyW}
 use Rattle.printing.specs.Sizes.{mostSmallPoints}
 use Rattle.printing.specs.Listed.{ListsAndWrites}
 use Rattle.records.proofs.blank as blank
@@ -131,7 +131,7 @@ module _ {M : Type 1} (𝓤 : URA M) (H : Heap 𝓤) (A : Atoms 𝓤) (W : Given
   abbrev Post : Val → SProp 𝓤
   Post = walkOf 𝓤 H A f.ended stayed (f.clauses 𝓤 H A mem run) .post (((κ0, (κ1, (κ2, (κ3, (κ4, (κ5, (κ6, tt))))))), (q0, (q1, (q2, (q3, (q4, (q5, (q6, tt))))))), tt, a, vals), tt)
 
-  exits : (r : Written) (zn zw zo : List ℕ) → ListsAndWrites points edges marks triangles numbers work output (outcome (r .number) (r .length) zo) → length zn ≡ length numbers → length zw ≡ length work → length zo ≡ length output → Is RW r (EW .val r ∷ []) → ent 𝓤 (⋆ 𝓤 H A (‵ O-points ∷ ‵ O-edges ∷ ‵ O-marks ∷ ‵ O-triangles ∷ ‵ (MutOf (uint-elem w32) κ4 γ-numbers b-numbers o-numbers (length numbers) zn) ∷ ‵ (MutOf (uint-elem w32) κ5 γ-work b-work o-work (length work) zw) ∷ ‵ (MutOf (uint-elem w8) κ6 γ-output b-output o-output (length output) zo) ∷ ‵ (flft κ0 q0) ∷ ‵ (flft κ1 q1) ∷ ‵ (flft κ2 q2) ∷ ‵ (flft κ3 q3) ∷ ‵ (flft κ4 q4) ∷ ‵ (flft κ5 q5) ∷ ‵ (flft κ6 q6) ∷ [])) (Post (EW .val r))
+  exits : (r : Written) (zn zw zo : List ℕ) → ListsAndWrites points edges marks triangles numbers work output zn zw (outcome (r .number) (r .length) zo) → length zn ≡ length numbers → length zw ≡ length work → length zo ≡ length output → Is RW r (EW .val r ∷ []) → ent 𝓤 (⋆ 𝓤 H A (‵ O-points ∷ ‵ O-edges ∷ ‵ O-marks ∷ ‵ O-triangles ∷ ‵ (MutOf (uint-elem w32) κ4 γ-numbers b-numbers o-numbers (length numbers) zn) ∷ ‵ (MutOf (uint-elem w32) κ5 γ-work b-work o-work (length work) zw) ∷ ‵ (MutOf (uint-elem w8) κ6 γ-output b-output o-output (length output) zo) ∷ ‵ (flft κ0 q0) ∷ ‵ (flft κ1 q1) ∷ ‵ (flft κ2 q2) ∷ ‵ (flft κ3 q3) ∷ ‵ (flft κ4 q4) ∷ ‵ (flft κ5 q5) ∷ ‵ (flft κ6 q6) ∷ [])) (Post (EW .val r))
   exits r zn zw zo e ln lw lo is =
       qed W (‵ O-points ∷ ‵ O-edges ∷ ‵ O-marks ∷ ‵ O-triangles ∷ ‵ (MutOf (uint-elem w32) κ4 γ-numbers b-numbers o-numbers (length numbers) zn) ∷ ‵ (MutOf (uint-elem w32) κ5 γ-work b-work o-work (length work) zw) ∷ ‵ (MutOf (uint-elem w8) κ6 γ-output b-output o-output (length output) zo) ∷ ‵ (flft κ0 q0) ∷ ‵ (flft κ1 q1) ∷ ‵ (flft κ2 q2) ∷ ‵ (flft κ3 q3) ∷ ‵ (flft κ4 q4) ∷ ‵ (flft κ5 q5) ∷ ‵ (flft κ6 q6) ∷ []) ∵
       suffices ! _ (ends-at 𝓤 H A f.ended stayed (f.clauses 𝓤 H A mem run) W (((κ0, (κ1, (κ2, (κ3, (κ4, (κ5, (κ6, tt))))))), (q0, (q1, (q2, (q3, (q4, (q5, (q6, tt))))))), tt, a, vals), tt) (EW .val r) r (tt, (tt, (tt, (tt, (zn, (zw, (zo, tt))))))) (tt, (tt, (tt, (tt, (ln, (lw, (lo, tt)))))))) $ says ! e $
@@ -239,7 +239,7 @@ module _ {M : Type 1} (𝓤 : URA M) (H : Heap 𝓤) (A : Atoms 𝓤) (W : Given
         move ! (1 ∷ 7 ∷ 8 ∷ 9 ∷ 10 ∷ 6 ∷ []) $ comes ! (uint-elem w8) tt (length output) output (z-done-as .1 .1 .1 .1 .1 .1 .0) b-output o-output refl room-output l-output-done-as $
         move ! (2 ∷ []) $ gathers ! E mostSmallPoints (z-listed .1 .1 .1 .1 .0) l₈ (l-array-listed ∙ long) $
         returns ! (look ! 54 refl) $ forget ! 54 refl $ forget ! 52 refl $ forget ! 50 refl $ forget ! 48 refl $ forget ! 46 refl $ forget ! 44 refl $ forget ! 42 refl $ forget ! 40 refl $ forget ! 37 refl $ forget ! 35 refl $ forget ! 33 refl $ forget ! 31 refl $ forget ! 29 refl $ forget ! 27 refl $ forget ! 25 refl $ forget ! 23 refl $ forget ! 21 refl $ forget ! 19 refl $ forget ! 17 refl $ forget ! 15 refl $
-        move ! (54 ∷ 55 ∷ []) $ free1 ! $ move ! (52 ∷ 53 ∷ []) $ free1 ! $ move ! (50 ∷ 51 ∷ []) $ free1 ! $ move ! (48 ∷ 49 ∷ []) $ free1 ! $ move ! (46 ∷ 47 ∷ []) $ free1 ! $ move ! (44 ∷ 45 ∷ []) $ free1 ! $ move ! (42 ∷ 43 ∷ []) $ free1 ! $ move ! (40 ∷ 41 ∷ []) $ free1 ! $ move ! (0 ∷ 39 ∷ []) $ free1 ! $ move ! (36 ∷ 37 ∷ []) $ free1 ! $ move ! (34 ∷ 35 ∷ []) $ free1 ! $ move ! (32 ∷ 33 ∷ []) $ free1 ! $ move ! (30 ∷ 31 ∷ []) $ free1 ! $ move ! (28 ∷ 29 ∷ []) $ free1 ! $ move ! (26 ∷ 27 ∷ []) $ free1 ! $ move ! (24 ∷ 25 ∷ []) $ free1 ! $ move ! (22 ∷ 23 ∷ []) $ free1 ! $ move ! (20 ∷ 21 ∷ []) $ free1 ! $ move ! (18 ∷ 19 ∷ []) $ free1 ! $ move ! (16 ∷ 17 ∷ []) $ free1 ! $ move ! (14 ∷ 15 ∷ []) $ free1 ! $ free0 ! $ keep ! (9 ∷ 8 ∷ 7 ∷ 6 ∷ 10 ∷ 11 ∷ 0 ∷ 5 ∷ 4 ∷ 3 ∷ 2 ∷ 12 ∷ 13 ∷ 1 ∷ []) $ by ! (exits done-as (z-listed .1 .1 .1 .0) (z-listed .1 .1 .1 .1 .1 .0) (z-done-as .1 .1 .1 .1 .1 .1 .0) (record { listed = left (listed .number) (listed .shells) (z-listed .1 .1 .1 .0) (z-listed .1 .1 .1 .1 .1 .0); records = (z-listed .1 .1 .1 .1 .0); made = e-listed; holds = e-done-as .0; written = e-done-as .1 }) l-numbers-listed l-work-listed l-output-done-as (told done-as w-done-as is-done-as)))))))))))))))))))))))))))))))))))))))))))))))
+        move ! (54 ∷ 55 ∷ []) $ free1 ! $ move ! (52 ∷ 53 ∷ []) $ free1 ! $ move ! (50 ∷ 51 ∷ []) $ free1 ! $ move ! (48 ∷ 49 ∷ []) $ free1 ! $ move ! (46 ∷ 47 ∷ []) $ free1 ! $ move ! (44 ∷ 45 ∷ []) $ free1 ! $ move ! (42 ∷ 43 ∷ []) $ free1 ! $ move ! (40 ∷ 41 ∷ []) $ free1 ! $ move ! (0 ∷ 39 ∷ []) $ free1 ! $ move ! (36 ∷ 37 ∷ []) $ free1 ! $ move ! (34 ∷ 35 ∷ []) $ free1 ! $ move ! (32 ∷ 33 ∷ []) $ free1 ! $ move ! (30 ∷ 31 ∷ []) $ free1 ! $ move ! (28 ∷ 29 ∷ []) $ free1 ! $ move ! (26 ∷ 27 ∷ []) $ free1 ! $ move ! (24 ∷ 25 ∷ []) $ free1 ! $ move ! (22 ∷ 23 ∷ []) $ free1 ! $ move ! (20 ∷ 21 ∷ []) $ free1 ! $ move ! (18 ∷ 19 ∷ []) $ free1 ! $ move ! (16 ∷ 17 ∷ []) $ free1 ! $ move ! (14 ∷ 15 ∷ []) $ free1 ! $ free0 ! $ keep ! (9 ∷ 8 ∷ 7 ∷ 6 ∷ 10 ∷ 11 ∷ 0 ∷ 5 ∷ 4 ∷ 3 ∷ 2 ∷ 12 ∷ 13 ∷ 1 ∷ []) $ by ! (exits done-as (z-listed .1 .1 .1 .0) (z-listed .1 .1 .1 .1 .1 .0) (z-done-as .1 .1 .1 .1 .1 .1 .0) (record { number = listed .number; shells = listed .shells; records = (z-listed .1 .1 .1 .1 .0); made = e-listed; holds = e-done-as .0; written = e-done-as .1 }) l-numbers-listed l-work-listed l-output-done-as (told EW done-as w-done-as is-done-as)))))))))))))))))))))))))))))))))))))))))))))))
 
 module _ {M : Type 1} (𝓤 : URA M) (H : Heap 𝓤) (A : Atoms 𝓤) (W : Given 𝓤 H A) (mem : Memory → SProp 𝓤) (run : Routine → Fun 𝓤) where
   walks : (C : Calls 𝓤 H) (Λ : Loops 𝓤 H) → FmC 𝓤 H (W .laws) C → Triple 𝓤 (C #blank) (Blank 𝓤 H A mem run) → Triple 𝓤 (C #shells) (Called 𝓤 H A mem run) → Triple 𝓤 (C #write-mesh) (WriteMesh 𝓤 H A mem run) → Walks 𝓤 H A f.ended stayed (WpFn 𝓤 H C Λ code.function) (f.clauses 𝓤 H A mem run)

@@ -1,14 +1,15 @@
 -- `shells::shells` meets its contract: a walk of its MIR, by hand. `list_numbers` is lent the two rooms of numbers. After a refusal nothing else is touched; else `fill` is lent the records, and the numbers to read.
 -- Assumes nothing.
-use Rattle.walks.proofs.Walk.{_≡_, refl, ap, subst, ℕ, _<_, _≤_, _^_, arith, List, [], _∷_, length, URA, fullShare, named, erased, imm, mut, w8, w32, w64, tyInt, tyBool, tyUnit, tyRef, Val, vint, SProp, ent, emp, id⊢, via, fst∗, Lft, Share, GName, Fml, ftrue, fat, froom, fdies, flft, Memory, Routine, Heap, Env, Calls, Loops, WpFn, Tables, Atoms, Fun, fact, givenOf, tables, tablesOf, Given, ‵, raw, _⊛_, ⋆, some, later, runs, Sq, atRet, _$_, _∵_, !, qed, by, move, keep, drop, use1, use2, split, join, pick, rewrite, fsplit, fjoin, feqL, suffices, frame, await, done, look, init, forget, stop, hop, fld, from, load, lit, of-opd, bin, addr, and-then, no-more, assigns, land, first, skips, branches, exec, returns, returns-within, enter, alloc1, alloc0, params1, pass1, pass0, free1, free0, agg, whole, sub, look-in, FmC, fmOf, WpFn-mono, owns, Is, shows, uint-makes, nothing-lawful, u8, u32, usize, unit, RefT, sliceTy, sliceVal, MutSlice, ShrSlice, Room, slice-vals, mut-slice-tells, shr-slice-tells, shr-slice-copy, only, owned, peeks, heard, nothing, onEntry, Meets, tripleOf, Contract, Triple, calls-at, ensured, lasts, entered, cited, says, Stays, stay-slice, stay-none-slice, walkOf, goes-slice, goes-none-slice, Walks, ends-at, walked, walk-meets, yes, plain}
-use Rattle.walks.proofs.Slices.{uint-elem, Mut as MutOf, ref as refOf, ref-ty, lends, comes, shares-out, shares-back}
+use Rattle.walks.proofs.Walk.{_≡_, refl, ap, ℕ, _<_, _≤_, _^_, arith, List, [], _∷_, length, URA, fullShare, named, erased, imm, mut, w8, w32, w64, tyInt, tyBool, tyUnit, tyRef, Val, vint, SProp, ent, emp, id⊢, via, fst∗, Lft, Share, GName, Fml, ftrue, fat, froom, fdies, flft, Memory, Routine, Heap, Env, Calls, Loops, WpFn, Tables, Atoms, Fun, fact, givenOf, tables, tablesOf, Given, ‵, raw, _⊛_, ⋆, some, later, runs, Sq, atRet, _$_, _∵_, !, qed, by, move, keep, drop, use1, use2, split, join, pick, rewrite, fsplit, fjoin, feqL, suffices, frame, await, done, look, init, forget, stop, hop, fld, from, load, lit, of-opd, bin, addr, and-then, no-more, assigns, land, first, skips, branches, exec, returns, returns-within, enter, alloc1, alloc0, params1, pass1, pass0, free1, free0, agg, whole, sub, look-in, FmC, fmOf, WpFn-mono, owns, Is, shows, uint-makes, nothing-lawful, u8, u32, usize, unit, RefT, sliceTy, sliceVal, MutSlice, ShrSlice, Room, slice-vals, mut-slice-tells, shr-slice-tells, shr-slice-copy, only, owned, peeks, heard, nothing, onEntry, Meets, tripleOf, Contract, Triple, calls-at, ensured, lasts, entered, cited, says, Stays, stay-slice, stay-none-slice, walkOf, goes-slice, goes-none-slice, Walks, ends-at, walked, walk-meets, yes, plain}
+use Rattle.walks.proofs.Slices.{uint-elem, told, Mut as MutOf, ref as refOf, ref-ty, lends, comes, shares-out, shares-back}
 use Rattle.shells.proofs.Records.{E, R, EL, RL, tyL, typed, tells}
 use Rattle.records.specs.declared.Shell.{Shell}
 use Rattle.shellnumbers.specs.declared.Listed.{Listed}
 use Rattle.shellnumbers.specs.Lists.{left, Lists}
 use Rattle.shelllist.specs.Promise.{Shells}
 use Rattle.shelllist.specs.Filled.{recordsFilled}
-use Rattle.shelllist.proofs.Ending.{given, none-given, ends-early, enough, can-fill, ends-granted}
+use Rattle.walks.proofs.Tested.{given, none-given}
+use Rattle.shelllist.proofs.Ending.{ends-early, enough, can-fill, ends-granted}
 use Rattle.shells.proofs.shells.Code.Mir as mir
 use Rattle.shellnumbers.proofs.list_numbers as list-numbers
 use Rattle.shellnumbers.proofs.list_numbers.Symbol as list-numbers-def
@@ -43,10 +44,6 @@ module _ {M : Type 1} (𝓤 : URA M) (H : Heap 𝓤) (A : Atoms 𝓤) (W : Given
 
   abbrev Post : Val → SProp 𝓤
   Post = walkOf 𝓤 H A f.ended stayed (f.clauses 𝓤 H A mem run) .post (((κ0, (κ1, (κ2, (κ3, (κ4, (κ5, tt)))))), (q0, (q1, (q2, (q3, (q4, (q5, tt)))))), tt, a, vals), tt)
-
-  -- the answer, as its machine value tells it
-  told : (r : Listed) (w : Val) → Is RL r (w ∷ []) → Is RL r (EL .val r ∷ [])
-  told r w is = subst (Is RL r) (EL .tells r (w ∷ []) is) is
 
   small : (r : Listed) → r .shells ≤ length ys → r .shells < 2 ^ 64
   small r l = omega (arith, l, room-ys .0)
@@ -195,7 +192,7 @@ module _ {M : Type 1} (𝓤 : URA M) (H : Heap 𝓤) (A : Atoms 𝓤) (W : Given
         land ! (from ! (stop !)) (init ! 39 refl (EL .lawful 𝓤 H A W .typed r _ is-r .0)) $ rewrite ! 39 (λ (u : Val). ‵ (fat fullShare tyL l₇ 0 u)) (ap only (EL .tells r (w ∷ []) is-r)) refl $ drop ! $ split ! $ move ! (1 ∷ []) $ split ! $ move ! (1 ∷ []) $ split ! $ move ! (1 ∷ []) $ split ! $ move ! (1 ∷ []) $ split ! $ move ! (1 ∷ []) $ drop ! $ move ! (1 ∷ 14 ∷ 15 ∷ 16 ∷ 17 ∷ 6 ∷ []) $ comes ! (uint-elem w32) tt (length numbers) numbers (zs .1 .1 .1 .0) b-numbers o-numbers refl room-numbers l-numbers $ move ! (2 ∷ 10 ∷ 11 ∷ 12 ∷ 13 ∷ 6 ∷ []) $ comes ! (uint-elem w32) tt (length work) work (zs .1 .1 .1 .1 .0) b-work o-work refl room-work l-work $ move ! (9 ∷ 8 ∷ 7 ∷ 2 ∷ 10 ∷ 0 ∷ 6 ∷ 5 ∷ 4 ∷ 3 ∷ 11 ∷ 1 ∷ []) $
         -- [points; triangles; marks; numbers; ys; work; tok0; tok1; tok2; tok3; tok4; tok5; _18; _17; _16; _15; _14; _13; _12; _11; _10; _9; _8; _7; _6; _5; _4; _3; _2; _1; _0]
         forget ! 32 refl $ forget ! 30 refl $ forget ! 28 refl $ forget ! 26 refl $ forget ! 24 refl $ keep ! (0 ∷ 1 ∷ 2 ∷ 3 ∷ 4 ∷ 5 ∷ 6 ∷ 7 ∷ 8 ∷ 9 ∷ 10 ∷ 11 ∷ 12 ∷ 13 ∷ 14 ∷ 15 ∷ 16 ∷ 17 ∷ 18 ∷ 19 ∷ 20 ∷ 21 ∷ 22 ∷ 23 ∷ 24 ∷ 25 ∷ 26 ∷ 27 ∷ 28 ∷ 29 ∷ 30 ∷ 31 ∷ 32 ∷ 33 ∷ 34 ∷ 35 ∷ 36 ∷ 37 ∷ 38 ∷ 39 ∷ 40 ∷ 41 ∷ 42 ∷ 43 ∷ 44 ∷ 45 ∷ 46 ∷ 47 ∷ 48 ∷ 49 ∷ []) $
-        test-arm l₀ l₁ l₂ l₃ l₄ l₅ l₆ l₇ l₈ l₉ l₁₀ l₁₁ l₁₂ l₁₃ l₁₄ l₁₅ l₁₆ l₁₇ l₁₈ r (zs .1 .1 .1 .0) (zs .1 .1 .1 .1 .0) e l-numbers l-work (told r w is-r)))))))))))))))))))))))))))))
+        test-arm l₀ l₁ l₂ l₃ l₄ l₅ l₆ l₇ l₈ l₉ l₁₀ l₁₁ l₁₂ l₁₃ l₁₄ l₁₅ l₁₆ l₁₇ l₁₈ r (zs .1 .1 .1 .0) (zs .1 .1 .1 .1 .0) e l-numbers l-work (told EL r w is-r)))))))))))))))))))))))))))))
 
 module _ {M : Type 1} (𝓤 : URA M) (H : Heap 𝓤) (A : Atoms 𝓤) (W : Given 𝓤 H A) (mem : Memory → SProp 𝓤) (run : Routine → Fun 𝓤) where
   walks : (C : Calls 𝓤 H) (Λ : Loops 𝓤 H) → FmC 𝓤 H (W .laws) C → Triple 𝓤 (C #list-numbers) (ListNumbers 𝓤 H A mem run) → Triple 𝓤 (C #fill) (Fill 𝓤 H A mem run) → Walks 𝓤 H A f.ended stayed (WpFn 𝓤 H C Λ code.function) (f.clauses 𝓤 H A mem run)
