@@ -10,18 +10,21 @@ use Rattle.laws.specs.Bits.{bits, bit}
 use Rattle.laws.specs.Mesh.{sides, total}
 use Rattle.cube.specs.Cube.{caseOf, isAbove}
 use Rattle.cube.specs.Face.{cuts, wayRound, faceSegments, segmentsOf}
-use Rattle.cube.specs.Loop.{loops, fan}
-use Rattle.cube.specs.Answer.{segments, triangles}
+use Rattle.cube.specs.Loop.{loops}
+use Rattle.cube.specs.Answer.{segments, fanOf, triangles}
 use Rattle.grid.specs.Grid.{axes, site, coordinate, side, isAboveGrey, otherEnd, fitsAlong, isThere, isOutermost, someFace, crossedFrom, crossed, onFaceFrom, onFace}
 use Rattle.grid.specs.Point.{pointEdges, number}
 use Rattle.grid.specs.Mesh.{cornerSite, gridEdge, caseAt}
 use Rattle.closed.specs.Runs.{runs, onOneFace, Balanced}
-use Rattle.closed.specs.Fourfold.{twoCubes, twoCubesAbove}
-use Rattle.closed.specs.Slit.{wrongTriangles, wrongMesh}
+use Rattle.closed.specs.Slit.{wrongCase, wrongTriangles, twoCubes, twoCubesAbove, wrongMesh}
+
+upper-case : caseAt twoCubes twoCubesAbove 0 0 1 ≡ wrongCase
+unfolding caseAt caseOf bits cornerSite site isAboveGrey
+upper-case = refl
 
 -- from point 2 to point 5 a triangle runs once, and none runs back, though they lie on no common outer face
 once-there : (runs wrongMesh 2 5 ≡ 1) × (runs wrongMesh 5 2 ≡ 0)
-unfolding wrongMesh wrongTriangles runs total sides sumOf joinBox joinTo caseAt caseOf bits cornerSite site isAboveGrey triangles flatMap fan loops segments segmentsOf faceSegments cuts wayRound isAbove bit gridEdge number countTo sumTo crossed crossedFrom isThere fitsAlong coordinate side otherEnd xor
+unfolding wrongMesh wrongTriangles runs total sides sumOf joinBox joinTo caseAt caseOf bits cornerSite site isAboveGrey triangles flatMap fanOf loops segments segmentsOf faceSegments cuts wayRound isAbove bit gridEdge number countTo sumTo crossed crossedFrom isThere fitsAlong coordinate side otherEnd xor
 once-there = (refl, refl)
 
 points-are : pointEdges axes twoCubes twoCubesAbove ≡ 2 ∷ 11 ∷ 12 ∷ 13 ∷ 14 ∷ 16 ∷ 18 ∷ 23 ∷ []

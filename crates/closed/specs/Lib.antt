@@ -1,10 +1,9 @@
 -- What demand 3 says of a surface, in its words: how often triangles run from one point to another, which points lie on one outer face, and the
--- balance; of which mesh it is said: one that was extracted here, smoothed here or not; when a shell is closed; when a list of shells is right; a claim
--- that is not made; and the slit that the balance finds. Pattern is what a mode owes so that all this holds of its meshes.
+-- balance; of which mesh it is said: one that was extracted here, smoothed here or not; when a shell is closed; when a list of shells is right; and
+-- the slit that the balance finds. Pattern is what a mode owes so that all this holds of its meshes.
 pub mod Runs
 pub mod Left
 pub mod Shell
 pub mod Listed
-pub mod Fourfold
 pub mod Slit
 pub mod Pattern

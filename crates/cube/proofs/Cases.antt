@@ -15,8 +15,8 @@ use Rattle.laws.proofs.Tests.{both, all-at, all-of}
 use Rattle.laws.proofs.Sides.{total-append, total-flip, total-rearranged}
 use Rattle.cube.specs.Cube.{cases, cubeEdgeCount, isAbove, crossed, edgeBetween, lowCorner, highCorner}
 use Rattle.cube.specs.Face.{cuts, wayRound, faceSegments, segmentsOf}
-use Rattle.cube.specs.Loop.{loops, fan}
-use Rattle.cube.specs.Answer.{segments, triangles}
+use Rattle.cube.specs.Loop.{loops}
+use Rattle.cube.specs.Answer.{segments, fanOf, triangles}
 
 -- an edge's two corners, and the edge between two corners, are two readings of one numbering
 every-edge-between : allTo cubeEdgeCount (λ e. eqb (edgeBetween (lowCorner e) (highCorner e)) e) ≡ true
@@ -65,7 +65,7 @@ isCrossedSide : ℕ → Arrow → Bool
 isCrossedSide k s = isCrossedEdge k (s .from) && (isCrossedEdge k (s .to) && not (eqb (s .from) (s .to)))
 
 every-side-crossed : allTo cases (λ k. allOf (isCrossedSide k) (sides (triangles k))) ≡ true
-unfolding allTo allOf isCrossedSide isCrossedEdge crossed xor sides triangles fan loops segments segmentsOf flatMap faceSegments cuts wayRound isAbove bit
+unfolding allTo allOf isCrossedSide isCrossedEdge crossed xor sides triangles fanOf loops segments segmentsOf flatMap faceSegments cuts wayRound isAbove bit
 every-side-crossed = refl
 
 crossed-edge : (k e : ℕ) → isCrossedEdge k e ≡ true → CrossedEdge k e
@@ -94,7 +94,7 @@ evenCase : List Arrow → List Arrow → Bool
 evenCase ds ss = rearranged sameArrow (ds ++ map flip ss) (map flip ds ++ ss)
 
 every-case-even : allTo cases (λ k. evenCase (sides (triangles k)) (segments k)) ≡ true
-unfolding allTo evenCase rearranged isIn without sameArrow sides triangles fan loops segments segmentsOf flatMap faceSegments cuts wayRound isAbove bit
+unfolding allTo evenCase rearranged isIn without sameArrow sides triangles fanOf loops segments segmentsOf flatMap faceSegments cuts wayRound isAbove bit
 every-case-even = refl
 
 -- so, whatever an arrow weighs, the surplus of sides one way over sides the other way is that of the segments

@@ -6,13 +6,13 @@ use Rattle.laws.specs.Range.{countTo, sumTo}
 use Rattle.laws.specs.Bits.{bit}
 use Rattle.cube.specs.Cube.{cases, isAbove}
 use Rattle.cube.specs.Face.{cuts, wayRound, faceSegments, segmentsOf}
-use Rattle.cube.specs.Loop.{loops, fan}
-use Rattle.cube.specs.Answer.{segments, triangles, count}
+use Rattle.cube.specs.Loop.{loops}
+use Rattle.cube.specs.Answer.{segments, fanOf, triangles, count}
 
 pub classes : map (λ n. countTo cases (λ k. eqb (count k) n)) (0 ∷ 1 ∷ 2 ∷ 3 ∷ 4 ∷ 5 ∷ []) ≡ 2 ∷ 16 ∷ 50 ∷ 80 ∷ 76 ∷ 32 ∷ []
-unfolding countTo sumTo count triangles flatMap fan loops segments segmentsOf faceSegments cuts wayRound isAbove bit
+unfolding countTo sumTo count triangles flatMap fanOf loops segments segmentsOf faceSegments cuts wayRound isAbove bit
 classes = refl
 
 pub in-all : sumTo cases count ≡ 820
-unfolding sumTo count triangles flatMap fan loops segments segmentsOf faceSegments cuts wayRound isAbove bit
+unfolding sumTo count triangles flatMap fanOf loops segments segmentsOf faceSegments cuts wayRound isAbove bit
 in-all = refl

@@ -3,6 +3,7 @@ pub mod Corners
 pub mod Way
 pub mod Turned
 pub mod Cases
+pub mod Start
 pub mod Classes
 pub mod Rings
 pub mod Places

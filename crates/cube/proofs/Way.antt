@@ -1,5 +1,5 @@
 -- The face rule, for a way round any face: corners and edges may be renamed before or after, and both ends of a segment are crossed edges of the face.
-use mathlib.Core.Path.{_≡_, refl, ap}
+use mathlib.Core.Path.{_≡_, refl, ap, ap₂}
 use mathlib.Core.List.{List, [], _∷_, _++_, map, map-append, List·Memᴰ}
 use mathlib.Core.Bool.{Bool, true, false, cond, not, _&&_, xor, false≢true}
 use Prim.Native.Nat.{ℕ}
@@ -37,6 +37,18 @@ module _ {A : Type 0} (f : ℕ → ℕ → A) (r : ℕ → ℕ) where
   unfolding goRound
   round-renamed [] = refl
   round-renamed (c ∷ cs) = round-renamed-from c c cs
+
+-- what is made of each step needs to agree only at the ring's own corners
+module _ {A : Type 0} (P : ℕ → Type 0) (f g : ℕ → ℕ → A) (agree : (c d : ℕ) → P c → P d → f c d ≡ g c d) where
+  round-agrees-from : (first c : ℕ) (ds : List ℕ) → P first → P c → All P ds → roundFrom f first c ds ≡ roundFrom g first c ds
+  unfolding roundFrom
+  round-agrees-from first c [] p q a = ap (λ s. s ∷ []) (agree c first q p)
+  round-agrees-from first c (d ∷ ds) p q a = ap₂ _∷_ (agree c d q (a .0)) (round-agrees-from first d ds p (a .0) (a .1))
+
+  pub round-agrees : (ring : List ℕ) → All P ring → goRound f ring ≡ goRound g ring
+  unfolding goRound
+  round-agrees [] a = refl
+  round-agrees (c ∷ cs) a = round-agrees-from c c cs (a .0) (a .0) (a .1)
 
 choose : {A B : Type 0} (f : A → B) (b : Bool) (x y : A) → cond b (f x) (f y) ≡ f (cond b x y)
 choose f true x y = refl

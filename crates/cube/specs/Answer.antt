@@ -1,12 +1,12 @@
 -- The answer for a case (document 01, "One cube", last paragraph).
-use mathlib.Core.List.{List, [], _∷_, flatMap, flatten}
+use mathlib.Core.List.{List, [], _∷_, map, flatMap, flatten}
 use Prim.Native.Nat.{ℕ, _*_}
 use lib.ListN.{length, getD}
 use Rattle.laws.specs.Range.{joinTo}
 use Rattle.laws.specs.Mesh.{Arrow, Triangle, triangle, cornersOf}
 use Rattle.cube.specs.Cube.{cases, isAbove, edgeBetween, cubeEdges}
-use Rattle.cube.specs.Face.{segmentsOf}
-use Rattle.cube.specs.Loop.{loops, fan}
+use Rattle.cube.specs.Face.{goRound, segmentsOf}
+use Rattle.cube.specs.Loop.{loops, fromStart, fan}
 
 -- the six faces as rings of corners, counterclockwise as seen from outside: x = 0, x = 1, y = 0, y = 1, z = 0, z = 1
 abbrev pub cubeFaces : List (List ℕ)
@@ -22,8 +22,13 @@ cubeFaces =
 unfoldable pub segments : ℕ → List Arrow
 segments k = segmentsOf (isAbove k) edgeBetween cubeFaces
 
+-- the fan of a loop starts as the faces, each the list of its edges, let it
+unfoldable pub fanOf : List ℕ → List Triangle
+unfolding fan fromStart
+fanOf loop = fan (fromStart (map (goRound edgeBetween) cubeFaces) cubeEdges loop)
+
 unfoldable pub triangles : ℕ → List Triangle
-triangles k = flatMap fan (loops cubeEdges (segments k))
+triangles k = flatMap fanOf (loops cubeEdges (segments k))
 
 unfoldable pub count : ℕ → ℕ
 count k = length (triangles k)

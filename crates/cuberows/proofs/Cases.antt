@@ -14,8 +14,8 @@ use Rattle.laws.proofs.Tests.{all-at}
 use Rattle.laws.proofs.Halves.{two-bits}
 use Rattle.cube.specs.Cube.{cases, cornerX, cornerY, cornerZ, caseOf, isAbove}
 use Rattle.cube.specs.Face.{cuts, wayRound, faceSegments, segmentsOf}
-use Rattle.cube.specs.Loop.{loops, fan}
-use Rattle.cube.specs.Answer.{mostCaseTriangles, segments, triangles, count, countTable}
+use Rattle.cube.specs.Loop.{loops}
+use Rattle.cube.specs.Answer.{mostCaseTriangles, segments, fanOf, triangles, count, countTable}
 use Rattle.cube.proofs.Places.{count-at}
 use Rattle.grid.specs.Grid.{site}
 use Rattle.grid.specs.Mesh.{cornerSite, caseAt}
@@ -35,7 +35,7 @@ word-case-small m i = omega arith
 
 -- a case has at most five triangles
 every-count-most : allTo cases (λ k. leb (count k) mostCaseTriangles) ≡ true
-unfolding allTo count triangles fan loops segments segmentsOf flatMap faceSegments cuts wayRound isAbove bit
+unfolding allTo count triangles fanOf loops segments segmentsOf flatMap faceSegments cuts wayRound isAbove bit
 every-count-most = refl
 
 pub count-most : (k : ℕ) → k < cases → count k ≤ mostCaseTriangles
@@ -60,7 +60,7 @@ same-bits b v x this next = two-bits v x ∙ rw (this, next) (omega arith)
 
 -- a cube that is all above or all below has no triangle
 whole-cube : (b : Bool) → count ((cases - 1) * one-if b) ≡ 0
-unfolding count triangles fan loops segments segmentsOf flatMap faceSegments cuts wayRound isAbove bit
+unfolding count triangles fanOf loops segments segmentsOf flatMap faceSegments cuts wayRound isAbove bit
 whole-cube true = refl
 whole-cube false = refl
 

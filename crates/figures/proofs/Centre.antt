@@ -15,8 +15,8 @@ use Rattle.laws.specs.Signed.{sumOfℤ}
 use Rattle.laws.specs.Mesh.{sides, sameArrow, flat}
 use Rattle.cube.specs.Cube.{caseOf, isAbove}
 use Rattle.cube.specs.Face.{cuts, wayRound, faceSegments, segmentsOf}
-use Rattle.cube.specs.Loop.{loops, fan}
-use Rattle.cube.specs.Answer.{segments, triangles as caseTriangles}
+use Rattle.cube.specs.Loop.{loops}
+use Rattle.cube.specs.Answer.{segments, fanOf, triangles as caseTriangles}
 use Rattle.grid.specs.Grid.{site, coordinate, side, isAboveGrey, otherEnd, fitsAlong, isThere, isOutermost, someFace, crossedFrom, crossed, onFaceFrom, onFace, mark}
 use Rattle.grid.specs.Point.{pointEdges, number, offset, placeFrom, place}
 use Rattle.grid.specs.Mesh.{cornerSite, gridEdge, caseAt, cubeTriangles, edgeMesh, mesh}
@@ -54,7 +54,7 @@ octahedron =
     2 ∷ 0 ∷ 1 ∷ 3 ∷ 1 ∷ 0 ∷ 2 ∷ 4 ∷ 0 ∷ 3 ∷ 0 ∷ 4 ∷ 2 ∷ 1 ∷ 5 ∷ 3 ∷ 5 ∷ 1 ∷ 2 ∷ 5 ∷ 4 ∷ 3 ∷ 4 ∷ 5 ∷ []
 
 triangles-are : centreTriangles ≡ octahedron
-unfolding centreTriangles flat flatMap mesh edgeMesh joinBox joinTo cubeTriangles caseAt caseOf bits cornerSite site isAboveGrey caseTriangles fan loops segments segmentsOf faceSegments cuts wayRound isAbove bit gridEdge number countTo sumTo crossed crossedFrom isThere fitsAlong coordinate side otherEnd xor
+unfolding centreTriangles flat flatMap mesh edgeMesh joinBox joinTo cubeTriangles caseAt caseOf bits cornerSite site isAboveGrey caseTriangles fanOf loops segments segmentsOf faceSegments cuts wayRound isAbove bit gridEdge number countTo sumTo crossed crossedFrom isThere fitsAlong coordinate side otherEnd xor
 triangles-are = refl
 
 smoothed-are : centreSmoothed ≡ replicate 18 256

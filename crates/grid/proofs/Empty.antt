@@ -11,8 +11,8 @@ use Rattle.laws.specs.Mesh.{rename}
 use Rattle.laws.proofs.Ranges.{join-empty}
 use Rattle.cube.specs.Cube.{cases, caseOf, isAbove}
 use Rattle.cube.specs.Face.{cuts, wayRound, faceSegments, segmentsOf}
-use Rattle.cube.specs.Loop.{loops, fan}
-use Rattle.cube.specs.Answer.{segments, triangles}
+use Rattle.cube.specs.Loop.{loops}
+use Rattle.cube.specs.Answer.{segments, fanOf, triangles}
 use Rattle.grid.specs.Grid.{Size, Kind, axes, isAboveGrey, isThere, edgeCount, crossedFrom, crossed}
 use Rattle.grid.specs.Point.{pointEdges}
 use Rattle.grid.specs.Mode.{Mode, cubes}
@@ -41,7 +41,7 @@ module _ (n : Size) (above : ℕ → Bool) (all : (s : ℕ) → above s ≡ true
 
 -- the case with all corners above has no triangle
 none-in-full : cubes .triangles (cases - 1) ≡ []
-unfolding triangles flatMap fan loops segments segmentsOf faceSegments cuts wayRound isAbove bit
+unfolding triangles flatMap fanOf loops segments segmentsOf faceSegments cuts wayRound isAbove bit
 none-in-full = refl
 
 module _ (n : Size) (samples : List ℕ) where

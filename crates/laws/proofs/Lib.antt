@@ -10,6 +10,7 @@ pub mod Lists
 pub mod Least
 pub mod Some
 pub mod Rearranged
+pub mod Single
 pub mod Binary
 pub mod Halves
 pub mod Words

@@ -2,19 +2,20 @@
 use mathlib.Core.Path.{_≡_, refl, ap, ap₂, _∙_}
 use mathlib.Core.List.{List, [], _∷_, _++_, map, flatMap}
 use mathlib.Core.Bool.{true}
-use Prim.Native.Nat.{ℕ, zero, suc, _+_, _*_}
+use Prim.Native.Nat.{ℕ, zero, suc, _+_, _*_, _<_, _≤_}
 use native.Mathlib.Omega.{arith}
 use lib.Dec.{eqb}
-use borrow.Author.Tests.{eqb-true}
+use borrow.Author.Tests.{eqb-true, eq-eqb}
 use lib.ListN.{length}
 use Rattle.laws.specs.Range.{joinTo}
 use Rattle.laws.specs.Sum.{sumOf, All}
-use Rattle.laws.specs.Order.{rearranged}
-use Rattle.laws.specs.Mesh.{Arrow, arrow, sameArrow, flip, Triangle, rename, sides, total, cornersOf, flat}
+use Rattle.laws.specs.Order.{rearranged, single}
+use Rattle.laws.specs.Mesh.{Arrow, arrow, sameArrow, flip, Triangle, rename, sides, total, times, cornersOf, flat}
 use Rattle.laws.proofs.Tests.{both}
 use Rattle.laws.proofs.Ranges.{length-flat}
-use Rattle.laws.proofs.Sums.{sum-append, sum-map}
+use Rattle.laws.proofs.Sums.{sum-append, sum-map, all-weaken}
 use Rattle.laws.proofs.Rearranged.{sum-rearranged}
+use Rattle.laws.proofs.Single.{single-most}
 
 pub sides-append : (xs ys : List Triangle) → sides (xs ++ ys) ≡ sides xs ++ sides ys
 unfolding sides
@@ -44,6 +45,23 @@ module _ (w : ℕ → ℕ → ℕ) where
   unfolding total sides sumOf
   total-rename f [] = refl
   total-rename f (t ∷ ts) = omega (arith, total-rename f ts)
+
+-- each arrow of a list is counted there
+pub all-counted : (ss : List Arrow) → All (λ s. 0 < times ss (s .from) (s .to)) ss
+unfolding total sumOf
+all-counted [] = tt
+all-counted (s ∷ ss) = (
+  rw (eq-eqb (s .from) (s .from) refl, eq-eqb (s .to) (s .to) refl) (omega arith),
+  all-weaken (λ r. 0 < times ss (r .from) (r .to)) _ (λ r h. omega (arith, h)) ss (all-counted ss),
+)
+
+-- where no arrow comes twice, at most one runs from a to b
+pub single-times : (ss : List Arrow) → single sameArrow ss ≡ true → (a b : ℕ) → times ss a b ≤ 1
+unfolding total sameArrow
+single-times ss h a b = single-most sameArrow (arrow a b) alike ss h
+  where
+    alike : (x y : Arrow) → sameArrow x (arrow a b) ≡ true → sameArrow y (arrow a b) ≡ true → sameArrow x y ≡ true
+    alike x y p q = rw (same-arrow x (arrow a b) p, same-arrow y (arrow a b) q) (unfold sameArrow in rw (eq-eqb a a refl, eq-eqb b b refl))
 
 -- what holds of the sides of triangles, after their corners were renamed
 pub all-renamed : (P : Arrow → Type 0) (f : ℕ → ℕ) (ts : List Triangle) → All (λ a. P (arrow (f (a .from)) (f (a .to)))) (sides ts)

@@ -1,11 +1,13 @@
--- Sums and properties over a list: joined, mapped, and of equal worth.
+-- Sums and properties over a list: joined, mapped, kept, of equal worth and of less.
 use mathlib.Core.Path.{_≡_, refl, _∙_}
 use mathlib.Core.List.{List, [], _∷_, _++_, map, flatMap, List·Memᴰ, List·Memᴰ·head, List·Memᴰ·tail}
-use Prim.Native.Nat.{ℕ, _+_, _*_, _≤_}
+use mathlib.Core.Bool.{Bool, true, false, cond}
+use Prim.Native.Nat.{ℕ, _+_, _*_, _<_, _≤_}
 use native.Mathlib.Nat.{zero-mul, suc-mul}
+use native.Mathlib.Decide.{decLt}
 use native.Mathlib.Omega.{arith}
 use lib.ListN.{length}
-use Rattle.laws.specs.Sum.{sumOf, All}
+use Rattle.laws.specs.Sum.{sumOf, keepOf, All}
 
 pub sum-append : {A : Type 0} (v : A → ℕ) (xs ys : List A) → sumOf v (xs ++ ys) ≡ sumOf v xs + sumOf v ys
 unfolding sumOf
@@ -39,6 +41,10 @@ pub all-weaken : {A : Type 0} (P Q : A → Type 0) → ((a : A) → P a → Q a)
 all-weaken P Q f [] a = tt
 all-weaken P Q f (x ∷ xs) a = (f x (a .0), all-weaken P Q f xs (a .1))
 
+pub all-both : {A : Type 0} (P Q : A → Type 0) (xs : List A) → All P xs → All Q xs → All (λ a. P a × Q a) xs
+all-both P Q [] a b = tt
+all-both P Q (x ∷ xs) a b = ((a .0, b .0), all-both P Q xs (a .1) (b .1))
+
 -- each element's image is in the list's image
 pub all-mapped : {A B : Type 0} (f : A → B) (xs : List A) → All (λ x. List·Memᴰ (f x) (map f xs)) xs
 all-mapped f [] = tt
@@ -58,3 +64,39 @@ pub sum-bounded : {A : Type 0} (m : ℕ) (g : A → ℕ) → ((x : A) → g x �
 unfolding sumOf
 sum-bounded m g h [] = omega (arith, zero-mul m)
 sum-bounded m g h (x ∷ xs) = omega (arith, h x, sum-bounded m g h xs, suc-mul (length xs) m)
+
+-- elements that are worth no more, one by one, are worth no more together
+pub sum-le : {A : Type 0} (P : A → Type 0) (u v : A → ℕ) → ((a : A) → P a → u a ≤ v a) → (xs : List A) → All P xs → sumOf u xs ≤ sumOf v xs
+unfolding sumOf
+sum-le P u v h [] a = omega arith
+sum-le P u v h (x ∷ xs) a = omega (arith, h x (a .0), sum-le P u v h xs (a .1))
+
+-- elements that fail a test may be left out where they are worth nothing, and never make a sum smaller
+module _ {A : Type 0} (p : A → Bool) (v : A → ℕ) where
+  pub sum-kept : ((a : A) → p a ≡ false → v a ≡ 0) → (xs : List A) → sumOf v (keepOf p xs) ≡ sumOf v xs
+  unfolding sumOf keepOf
+  sum-kept none [] = refl
+  sum-kept none (x ∷ xs) = go (p x) refl (sum-kept none xs)
+    where
+      go : (b : Bool) → p x ≡ b → sumOf v (keepOf p xs) ≡ sumOf v xs → sumOf v (cond b (x ∷ keepOf p xs) (keepOf p xs)) ≡ v x + sumOf v xs
+      go true e later = omega (arith, later)
+      go false e later = omega (arith, later, none x e)
+
+  pub sum-kept-le : (xs : List A) → sumOf v (keepOf p xs) ≤ sumOf v xs
+  unfolding sumOf keepOf
+  sum-kept-le [] = omega arith
+  sum-kept-le (x ∷ xs) = go (p x) (sum-kept-le xs)
+    where
+      go : (b : Bool) → sumOf v (keepOf p xs) ≤ sumOf v xs → sumOf v (cond b (x ∷ keepOf p xs) (keepOf p xs)) ≤ v x + sumOf v xs
+      go true later = omega (arith, later)
+      go false later = omega (arith, later)
+
+-- where the elements are worth something together, one of them is
+pub some-of : {A R : Type 0} (P : A → Type 0) (v : A → ℕ) (xs : List A) → All P xs → 0 < sumOf v xs → ((a : A) → P a → 0 < v a → R) → R
+unfolding sumOf
+some-of P v [] a h then = absurd (omega (arith, h))
+some-of {R = R} P v (x ∷ xs) a h then = go (decLt 0 (v x)) (λ l. some-of P v xs (a .1) l then)
+  where
+    go : Dec (0 < v x) → (0 < sumOf v xs → R) → R
+    go (yes l) later = then x (a .0) l
+    go (no l) later = later (omega (arith, h))

@@ -3,6 +3,7 @@ use mathlib.Core.List.{List, [], _∷_, flatMap}
 use mathlib.Core.Bool.{Bool, _&&_}
 use Prim.Native.Nat.{ℕ}
 use lib.Dec.{eqb}
+use Rattle.laws.specs.Range.{one-if}
 use Rattle.laws.specs.Sum.{sumOf}
 
 -- an arrow runs from one number to another: a segment between two edges of a cube, or the side of a triangle
@@ -37,6 +38,10 @@ sides (t ∷ ts) = arrow (t .one) (t .two) ∷ arrow (t .two) (t .three) ∷ arr
 -- what the arrows weigh together, an arrow from a to b weighing w a b
 unfoldable pub total : (ℕ → ℕ → ℕ) → List Arrow → ℕ
 total w xs = sumOf (λ a. w (a .from) (a .to)) xs
+
+-- how many of the arrows run from a to b
+abbrev pub times : List Arrow → ℕ → ℕ → ℕ
+times xs a b = total (λ i j. one-if (eqb i a && eqb j b)) xs
 
 unfoldable pub sameArrow : Arrow → Arrow → Bool
 sameArrow a b = eqb (a .from) (b .from) && eqb (a .to) (b .to)

@@ -19,8 +19,8 @@ use Rattle.laws.specs.Mesh.{sides, sameArrow, flat}
 use Rattle.laws.proofs.Tests.{all-of}
 use Rattle.cube.specs.Cube.{caseOf, isAbove}
 use Rattle.cube.specs.Face.{cuts, wayRound, faceSegments, segmentsOf}
-use Rattle.cube.specs.Loop.{loops, fan}
-use Rattle.cube.specs.Answer.{segments, triangles}
+use Rattle.cube.specs.Loop.{loops}
+use Rattle.cube.specs.Answer.{segments, fanOf, triangles}
 use Rattle.grid.specs.Sides.{sideFits, sidesFit}
 use Rattle.grid.specs.Grid.{site, coordinate, side, isAboveGrey, otherEnd, fitsAlong, isThere, isOutermost, someFace, crossedFrom, crossed, onFaceFrom, onFace, mark}
 use Rattle.grid.specs.Point.{pointEdges, number, offset, placeFrom, place}
@@ -60,7 +60,7 @@ abbrev corner : Mesh
 corner = record { points = 128 ∷ 0 ∷ 0 ∷ 0 ∷ 128 ∷ 0 ∷ 0 ∷ 0 ∷ 128 ∷ []; triangles = 0 ∷ 1 ∷ 2 ∷ []; marks = 1 ∷ 1 ∷ 1 ∷ [] }
 
 mesh-is : smoothedMesh exampleNumbers exampleSamples ≡ corner
-unfolding exampleNumbers exampleSamples smoothedMesh afterRounds rounds extractedMesh gridEdges pointEdges keepTo joinTo crossed crossedFrom isThere fitsAlong coordinate side otherEnd site isAboveGrey xor flatMap place placeFrom offset nearest mark someFace onFace onFaceFrom isOutermost flat mesh edgeMesh joinBox cubeTriangles caseAt caseOf bits cornerSite triangles fan loops segments segmentsOf faceSegments cuts wayRound isAbove bit gridEdge number countTo sumTo
+unfolding exampleNumbers exampleSamples smoothedMesh afterRounds rounds extractedMesh gridEdges pointEdges keepTo joinTo crossed crossedFrom isThere fitsAlong coordinate side otherEnd site isAboveGrey xor flatMap place placeFrom offset nearest mark someFace onFace onFaceFrom isOutermost flat mesh edgeMesh joinBox cubeTriangles caseAt caseOf bits cornerSite triangles fanOf loops segments segmentsOf faceSegments cuts wayRound isAbove bit gridEdge number countTo sumTo
 mesh-is = refl
 
 -- one shell, and the text

@@ -5,13 +5,13 @@ use Rattle.laws.specs.Range.{joinTo}
 use Rattle.laws.specs.Bits.{bit}
 use Rattle.cube.specs.Cube.{isAbove}
 use Rattle.cube.specs.Face.{cuts, wayRound, faceSegments, segmentsOf}
-use Rattle.cube.specs.Loop.{loops, fan}
-use Rattle.cube.specs.Answer.{segments, triangles, count, countTable}
+use Rattle.cube.specs.Loop.{loops}
+use Rattle.cube.specs.Answer.{segments, fanOf, triangles, count, countTable}
 use Rattle.cube.proofs.counts.Statement.{statement}
 use Rattle.cube.proofs.counts.Tie as tie
 
 returns : tie.Need-returns
-unfolding countTable joinTo count triangles flatMap fan loops segments segmentsOf faceSegments cuts wayRound isAbove bit
+unfolding countTable joinTo count triangles flatMap fanOf loops segments segmentsOf faceSegments cuts wayRound isAbove bit
 returns c = refl
 
 pub counts-spec : {M : Type 1} → statement M
