@@ -36,7 +36,7 @@ module _ (above : ℕ → Bool) (edge : ℕ → ℕ → ℕ) (name : ℕ → ℕ
       ∙ ap (sumOf (λ a. w (a .from) (a .to))) (cuts-renamed name (wayRound above edge ring))
       ∙ sum-map (λ a. w (a .from) (a .to)) (arrowNamed name) (cuts (wayRound above edge ring))
 
-  rings-renamed : (w : ℕ → ℕ → ℕ) (rs : List Ring)
+  pub rings-renamed : (w : ℕ → ℕ → ℕ) (rs : List Ring)
       → total w (segmentsOf above named rs) ≡ total (λ i j. w (name i) (name j)) (segmentsOf above edge rs)
   rings-renamed w rs =
       ring-by-ring above named w rs
@@ -70,20 +70,20 @@ same-site n p q r i = site n (p i) (q i) (r i)
 
 -- a corner at a cube's low side is, one step on, a corner of the cube before
 module _ (n : Size) (x y z c : ℕ) where
-  shared-x : along c 0 ≡ 0 → cornerSite n x y z (c + 1) ≡ cornerSite n (x + 1) y z c
+  pub shared-x : along c 0 ≡ 0 → cornerSite n x y z (c + 1) ≡ cornerSite n (x + 1) y z c
   unfolding cornerSite
   shared-x h =
       let half : (c + 1) / 2 ≡ c / 2 = omega arith in
       let quarter : (c + 1) / 4 ≡ c / 4 = omega arith in
       same-site n (omega arith) (ap (λ q. y + q % 2) half) (ap (λ q. z + q % 2) quarter)
 
-  shared-y : along c 1 ≡ 0 → cornerSite n x y z (c + 2) ≡ cornerSite n x (y + 1) z c
+  pub shared-y : along c 1 ≡ 0 → cornerSite n x y z (c + 2) ≡ cornerSite n x (y + 1) z c
   unfolding cornerSite
   shared-y h =
       let quarter : (c + 2) / 4 ≡ c / 4 = omega arith in
       same-site n (omega arith) (omega arith) (ap (λ q. z + q % 2) quarter)
 
-  shared-z : along c 2 ≡ 0 → cornerSite n x y z (c + 4) ≡ cornerSite n x y (z + 1) c
+  pub shared-z : along c 2 ≡ 0 → cornerSite n x y z (c + 4) ≡ cornerSite n x y (z + 1) c
   unfolding cornerSite
   shared-z h = same-site n (omega arith) (omega arith) (omega arith)
 

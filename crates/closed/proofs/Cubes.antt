@@ -18,22 +18,22 @@ use Rattle.grid.proofs.Edges.{isCubeEdge, cubes-sides-cut}
 use Rattle.closed.specs.Pattern.{sameRing, andBack, fitted, TurnsRound, Owed, cubePattern}
 use Rattle.closed.proofs.Pattern.{isLowEdge, sidesLie, sides-lie}
 
-edge-either-way : (i j : ℕ) → edgeBetween i j ≡ edgeBetween j i
+pub edge-either-way : (i j : ℕ) → edgeBetween i j ≡ edgeBetween j i
 edge-either-way i j = rw (min-comm i j, max-comm i j)
 
-turns : (i j k l : ℕ) → TurnsRound edgeBetween (i ∷ j ∷ k ∷ l ∷ [])
+pub turns : (i j k l : ℕ) → TurnsRound edgeBetween (i ∷ j ∷ k ∷ l ∷ [])
 turns i j k l above w = face-turned above edgeBetween edge-either-way w i j k l
 
-faces-fit : rearranged sameRing (cubePattern .faces) (fitted cubePattern) ≡ true
+pub faces-fit : rearranged sameRing (cubePattern .faces) (fitted cubePattern) ≡ true
 unfolding rearranged isIn without sameRing fitted andBack back
 faces-fit = refl
 
-case-even : (above : ℕ → Bool) (w : ℕ → ℕ → ℕ)
+pub case-even : (above : ℕ → Bool) (w : ℕ → ℕ → ℕ)
     → total w (sides (triangles (caseOf above))) + total (λ i j. w j i) (segmentsOf above edgeBetween cubeFaces)
     ≡ total (λ i j. w j i) (sides (triangles (caseOf above))) + total w (segmentsOf above edgeBetween cubeFaces)
 case-even above w = rw (← (segments-of-case above)) (case-balance (caseOf above) (case-small above) w)
 
-pub cubes-owed : Owed cubes
+unfoldable pub cubes-owed : Owed cubes
 unfolding sidesLie isLowEdge isCubeEdge allOf goRound
 cubes-owed =
     record {

@@ -3,14 +3,16 @@
 -- the outer faces. Nothing here knows what a cell is: a cube, or a cube cut into tetrahedra.
 use mathlib.Core.Path.{_≡_, refl, sym, _∙_}
 use mathlib.Core.List.{List, [], _∷_, _++_}
-use mathlib.Core.Bool.{Bool, true, false}
-use Prim.Native.Nat.{ℕ, _+_, _<_}
+use mathlib.Core.Bool.{Bool, true, false, _&&_}
+use Prim.Native.Nat.{ℕ, _+_, _<_, _≤_}
 use native.Mathlib.Omega.{arith}
-use Rattle.laws.specs.Range.{joinBox}
+use lib.Dec.{eqb}
+use Rattle.laws.specs.Range.{one-if, joinBox}
 use Rattle.laws.specs.Sum.{sumOf, All}
-use Rattle.laws.specs.Mesh.{Arrow, Triangle, sides, total}
+use Rattle.laws.specs.Mesh.{Arrow, Triangle, sides, total, times}
 use Rattle.laws.proofs.Sides.{sides-append, total-append}
 use Rattle.laws.proofs.Box.{measure-box, box-even}
+use Rattle.laws.proofs.Single.{OneCell, box-most-one}
 use Rattle.cube.proofs.Way.{Ends}
 
 -- a weight of arrows there and back
@@ -33,6 +35,17 @@ module _ (w : ℕ → ℕ → ℕ) where
 
   two-lists : (xs ys : List Triangle) → total w (sides (xs ++ ys)) ≡ total w (sides xs) + total w (sides ys)
   two-lists xs ys = rw (sides-append xs ys) (total-append w (sides xs) (sides ys))
+
+-- Where in each cell at most one side runs from i to j, and two cells in which one does are the same cell, at most one does in all together.
+pub once-law : (nx ny nz : ℕ) (made : ℕ → ℕ → ℕ → List Triangle) (i j : ℕ) → OneCell nx ny nz (λ x y z. times (sides (made x y z)) i j)
+    → times (sides (joinBox nx ny nz made)) i j ≤ 1
+once-law nx ny nz made i j cells =
+    let w : ℕ → ℕ → ℕ = λ a b. one-if (eqb a i && eqb b j) in
+    omega (
+      arith,
+      measure-box nx ny nz (λ ts. total w (sides ts)) (no-triangle w) (two-lists w) made,
+      box-most-one nx ny nz (λ x y z. times (sides (made x y z)) i j) cells,
+    )
 
 -- `made` are a cell's triangles, and `across-x`, `across-y`, `across-z` the segments of its face towards the smaller x, y, z as the cell runs them
 module _ (nx ny nz : ℕ) (made : ℕ → ℕ → ℕ → List Triangle) (across-x across-y across-z : ℕ → ℕ → ℕ → List Arrow) where

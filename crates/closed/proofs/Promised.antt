@@ -20,12 +20,14 @@ use Rattle.grid.specs.Work.{size}
 use Rattle.grid.proofs.Sound.{PointSide, mesh-sound}
 use Rattle.extract.specs.Extraction.{Rooms, Outcome, pointList, triangleList}
 use Rattle.extract.specs.Promise.{Extracts}
-use Rattle.closed.specs.Runs.{runs, Even, Balanced}
+use Rattle.closed.specs.Runs.{runs, trianglesFrom, Even, Balanced, OneEachWay}
 use Rattle.mesh.specs.Mesh.{trianglesOf}
-use Rattle.closed.specs.Pattern.{Owed}
+use Rattle.closed.specs.Pattern.{Owed, OwedOnce}
 use Rattle.closed.specs.Left.{meshLeft, edgesLeft}
 use Rattle.closed.proofs.Law.{ends-nothing}
 use Rattle.closed.proofs.Balance.{balanced, unmarked-balanced}
+use Rattle.closed.proofs.Once.{joined-once, at-most-once}
+use Rattle.closed.proofs.Triangles.{side-by-triangle}
 use Rattle.closed.proofs.Granted.{Granted, left-granted, triangles-of-flat}
 
 module _ (mode : Mode) (owed : Owed mode) (nx ny nz grey : ℕ) (samples : List ℕ) (before : Rooms) (after : Outcome) (extracts : Extracts mode nx ny nz grey samples before after)
@@ -80,3 +82,25 @@ module _ (mode : Mode) (owed : Owed mode) (nx ny nz grey : ℕ) (samples : List 
       go : Dec (p < length (meshLeft after .marks)) → Even (triangleList mode (size nx ny nz) grey samples before) p q
       go (yes l) = unmarked-below p q l m
       go (no l) = beyond p q (omega arith)
+
+module _ (mode : Mode) (once : OwedOnce mode) (nx ny nz grey : ℕ) (samples : List ℕ) (before : Rooms) (after : Outcome)
+    (extracts : Extracts mode nx ny nz grey samples before after) (none : after .number ≡ 0) where
+  abbrev are : trianglesOf (meshLeft after .triangles) ≡ triangleList mode (size nx ny nz) grey samples before
+  are = triangles-left mode (once .owed) nx ny nz grey samples before after extracts none
+
+  -- between any two points at most one triangle runs from the first to the second
+  pub extract-at-most-once : (p q : ℕ) → runs (trianglesOf (meshLeft after .triangles)) p q ≤ 1
+  extract-at-most-once p q = rw are (at-most-once mode once (size nx ny nz) (isAboveGrey grey samples) p q)
+
+  -- between two that lie on no common outer face, exactly one each way or none
+  pub extract-one-each-way : OneEachWay (mode .kind) (size nx ny nz) (edgesLeft after) (trianglesOf (meshLeft after .triangles))
+  extract-one-each-way p q hp hq apart =
+      joined-once (trianglesOf (meshLeft after .triangles)) p q (extract-balanced mode (once .owed) nx ny nz grey samples before after extracts none p q hp hq apart) (extract-at-most-once p q)
+
+  -- the sides from p to q and the triangles that run from p to q are as many
+  pub extract-triangles : (p q : ℕ) → runs (trianglesOf (meshLeft after .triangles)) p q ≡ trianglesFrom (trianglesOf (meshLeft after .triangles)) p q
+  extract-triangles p q =
+      rw are
+      (side-by-triangle (triangleList mode (size nx ny nz) grey samples before)
+      (all-weaken (PointSide mode (size nx ny nz) (isAboveGrey grey samples)) (λ s. s .from ≡ s .to → ⊥) (λ s h. h .apart) (sides (triangleList mode (size nx ny nz) grey samples before))
+      (mesh-sound mode (size nx ny nz) (isAboveGrey grey samples) (once .owed .cut))) p q)

@@ -1,16 +1,17 @@
--- A set of points that no side leads out of or into, and from which triangles run evenly, has closed triangles.
+-- A set of points that no side leads out of or into, and from which triangles run evenly, has closed triangles; and joined once, where no two of all triangles run the same way.
 use mathlib.Core.Path.{_≡_, refl, ap, sym, _∙_}
 use mathlib.Core.List.{List, [], _∷_}
 use mathlib.Core.Bool.{Bool, true, false, cond, _&&_, and-false, true≢false, false≢true}
-use Prim.Native.Nat.{ℕ, _+_}
+use Prim.Native.Nat.{ℕ, _+_, _≤_}
 use native.Mathlib.Omega.{arith}
 use lib.Dec.{eqb}
 use borrow.Author.Tests.{ne-eqb}
 use Rattle.laws.specs.Range.{one-if}
-use Rattle.laws.specs.Sum.{sumOf}
+use Rattle.laws.specs.Sum.{sumOf, keepOf}
 use Rattle.laws.specs.Mesh.{Triangle, sides, total}
 use Rattle.closed.specs.Runs.{runs, Even}
-use Rattle.closed.specs.Shell.{SidesStay, trianglesIn, Closed}
+use Rattle.closed.specs.Shell.{SidesStay, trianglesIn, Closed, Paired}
+use Rattle.closed.proofs.Once.{joined-once}
 
 module _ (inside : ℕ → Bool) (w : ℕ → ℕ → ℕ) where
   -- a weight that is nothing where both ends have the value b
@@ -30,7 +31,7 @@ module _ (inside : ℕ → Bool) (w : ℕ → ℕ → ℕ) where
 
   -- outside nothing weighs: the set's triangles weigh what all do
   all-inside : Nothing false → (ts : List Triangle) → SidesStay inside ts → total w (sides (trianglesIn inside ts)) ≡ total w (sides ts)
-  unfolding total sides sumOf trianglesIn
+  unfolding total sides sumOf keepOf
   all-inside none [] stay = refl
   all-inside none (t ∷ ts) stay = go (inside (t .one)) refl (all-inside none ts (stay .1 .1 .1))
     where
@@ -41,7 +42,7 @@ module _ (inside : ℕ → Bool) (w : ℕ → ℕ → ℕ) where
 
   -- inside nothing weighs: the set's triangles weigh nothing
   none-inside : Nothing true → (ts : List Triangle) → SidesStay inside ts → total w (sides (trianglesIn inside ts)) ≡ 0
-  unfolding total sides sumOf trianglesIn
+  unfolding total sides sumOf keepOf
   none-inside none [] stay = refl
   none-inside none (t ∷ ts) stay = go (inside (t .one)) refl (none-inside none ts (stay .1 .1 .1))
     where
@@ -49,6 +50,17 @@ module _ (inside : ℕ → Bool) (w : ℕ → ℕ → ℕ) where
           → total w (sides (cond b (t ∷ trianglesIn inside ts) (trianglesIn inside ts))) ≡ 0
       go true e later = unfold total sides sumOf in omega (arith, later, three-nothing t true none e (stay .0) (stay .1 .0))
       go false e later = later
+
+  -- fewer triangles weigh no more
+  pub fewer-weigh : (ts : List Triangle) → total w (sides (trianglesIn inside ts)) ≤ total w (sides ts)
+  unfolding total sides sumOf keepOf
+  fewer-weigh [] = omega arith
+  fewer-weigh (t ∷ ts) = go (inside (t .one)) (fewer-weigh ts)
+    where
+      go : (b : Bool) → total w (sides (trianglesIn inside ts)) ≤ total w (sides ts)
+          → total w (sides (cond b (t ∷ trianglesIn inside ts) (trianglesIn inside ts))) ≤ total w (sides (t ∷ ts))
+      go true later = unfold total sides sumOf in omega (arith, later)
+      go false later = unfold total sides sumOf in omega (arith, later)
 
 module _ (inside : ℕ → Bool) (ts : List Triangle) (stay : SidesStay inside ts) where
   -- an end on the other side of the set's rim than p is not p
@@ -80,3 +92,9 @@ module _ (inside : ℕ → Bool) (ts : List Triangle) (stay : SidesStay inside t
       go false h =
           none-inside inside there (from-elsewhere false true p q h false≢true) ts stay
           ∙ sym (none-inside inside back (to-elsewhere false true p q h false≢true) ts stay)
+
+  pub pairs : Closed (trianglesIn inside ts) → ((p q : ℕ) → runs ts p q ≤ 1) → Paired (trianglesIn inside ts)
+  pairs closed most p q = joined-once (trianglesIn inside ts) p q (closed p q) fewer
+    where
+      fewer : runs (trianglesIn inside ts) p q ≤ 1
+      fewer = unfold runs in omega (arith, fewer-weigh inside (λ i j. one-if (eqb i p && eqb j q)) ts, most p q)

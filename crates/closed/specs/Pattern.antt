@@ -3,11 +3,11 @@
 use mathlib.Core.Path.{_≡_}
 use mathlib.Core.List.{List, [], _∷_, _++_, map}
 use mathlib.Core.Bool.{Bool, true, false, _&&_}
-use Prim.Native.Nat.{ℕ, _+_, _^_, min, max}
+use Prim.Native.Nat.{ℕ, zero, suc, _+_, _^_, _<_, _≤_, min, max}
 use lib.Dec.{eqb}
 use Rattle.laws.specs.Sum.{All}
 use Rattle.laws.specs.Order.{rearranged}
-use Rattle.laws.specs.Mesh.{Arrow, arrow, sides, total}
+use Rattle.laws.specs.Mesh.{Arrow, arrow, sides, total, times}
 use Rattle.cube.specs.Cube.{caseOf, edgeBetween}
 use Rattle.cube.specs.Face.{goRound, faceSegments, segmentsOf, back}
 use Rattle.cube.specs.Answer.{cubeFaces}
@@ -87,6 +87,39 @@ pub record Owed (m : Mode) : Type 0 where
   pub side-x : All (λ r. All (LowEdge m pattern 0) (goRound arrow r)) (pattern .low-x)
   pub side-y : All (λ r. All (LowEdge m pattern 1) (goRound arrow r)) (pattern .low-y)
   pub side-z : All (λ r. All (LowEdge m pattern 2) (goRound arrow r)) (pattern .low-z)
+
+-- an edge lies in a cube's side across an axis, the low one (at is 0) or the high one (at is 1): it does not run along the axis, and leaves a corner there
+pub record AtSide (m : Mode) (axis at e : ℕ) : Type 0 where
+  pub flat : along (directionOf m e) axis ≡ 0
+  pub stands : along (m .low e) axis ≡ at
+
+-- the faces at a cube's low side across an axis
+abbrev pub lowFaces : Pattern → ℕ → List Ring
+lowFaces p zero = p .low-x
+lowFaces p (suc zero) = p .low-y
+lowFaces p (suc (suc axis)) = p .low-z
+
+-- What a mode owes besides, so that between two points no two triangles run the same way.
+pub record OwedOnce (m : Mode) : Type 0 where
+  pub owed : Owed m
+  -- an edge of the cube is told by the corner that it leaves and by which of the kind's edges it is there
+  pub told : (e f : ℕ) → CubeEdge m e → CubeEdge m f → m .low e ≡ m .low f → m .code e ≡ m .code f → e ≡ f
+  -- two different edges lie together in a side across one axis at most
+  pub one-side : (e f : ℕ) → CubeEdge m e → CubeEdge m f → (e ≡ f → ⊥) → (axis at axis′ at′ : ℕ) → axis < 3 → axis′ < 3
+      → AtSide m axis at e → AtSide m axis at f → AtSide m axis′ at′ e → AtSide m axis′ at′ f → axis ≡ axis′
+  -- no side of a cube's triangles comes twice
+  pub once : (above : ℕ → Bool) (e f : ℕ) → times (sides (m .triangles (caseOf above))) e f ≤ 1
+  -- a side of a triangle that joins two edges of a cube's low side is a segment of the faces there; one that joins two edges of a high side is one turned round, as the next
+  -- cube sees it
+  pub low-segment : (axis : ℕ) → axis < 3 → (above : ℕ → Bool) (e f : ℕ) → CubeEdge m e → CubeEdge m f → AtSide m axis 0 e → AtSide m axis 0 f
+      → times (sides (m .triangles (caseOf above))) e f ≤ times (segmentsOf above (owed .pattern .edge) (lowFaces (owed .pattern) axis)) e f
+  pub high-segment : (axis : ℕ) → axis < 3 → (above : ℕ → Bool) (e f : ℕ) → CubeEdge m e → CubeEdge m f → AtSide m axis 1 e → AtSide m axis 1 f
+      → times (sides (m .triangles (caseOf above))) e f
+      ≤ times (segmentsOf above (owed .pattern .edge) (map (further (2 ^ axis)) (lowFaces (owed .pattern) axis))) f e
+  -- of two segments there, none runs back where the other runs
+  pub one-way : (axis : ℕ) → axis < 3 → (above : ℕ → Bool) (e f : ℕ)
+      → let cuts = segmentsOf above (owed .pattern .edge) (lowFaces (owed .pattern) axis) in
+      times cuts e f + times cuts f e ≤ 1
 
 -- whole cubes: the faces are document 01's, and those at the low sides are the first, third and fifth of them
 abbrev pub cubePattern : Pattern

@@ -22,6 +22,11 @@ use Rattle.cube.specs.Loop.{loops, mayStart}
 use Rattle.cube.specs.Answer.{cubeFaces, segments, fanOf, triangles}
 use Rattle.cube.proofs.Corners.{faces-small, case-small, ring-of-case}
 
+-- which diagonals are inner: of a loop of six from its first edge, those to the third, fourth and fifth. Each is tested alone, by a face that has only the two edges.
+pub inner-diagonals : map (λ e. mayStart ((0 ∷ e ∷ []) ∷ []) (0 ∷ 1 ∷ 2 ∷ 3 ∷ 4 ∷ 5 ∷ []) 0) (1 ∷ 2 ∷ 3 ∷ 4 ∷ 5 ∷ []) ≡ true ∷ false ∷ false ∷ false ∷ true ∷ []
+unfolding mayStart
+inner-diagonals = refl
+
 -- the edges at which the fan of a loop may start
 unfoldable pub starts : List ℕ → List ℕ
 starts loop = keepOf (mayStart (map (goRound edgeBetween) cubeFaces) loop) cubeEdges

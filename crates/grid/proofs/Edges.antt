@@ -1,7 +1,7 @@
 -- The grid edges of a cube's edges: they are edges of the grid, crossed when the cube's edge is, and different ones are different.
 use mathlib.Core.Path.{_≡_, refl, ap, ap₂, sym, _∙_}
 use mathlib.Core.Bool.{Bool, true, cond, _&&_, xor}
-use Prim.Native.Nat.{ℕ, _+_, _*_, _-_, _/_, _%_, _^_, _<_}
+use Prim.Native.Nat.{ℕ, zero, suc, _+_, _*_, _-_, _/_, _%_, _^_, _<_, _≤_}
 use native.Mathlib.Nat.{add-assoc}
 use native.Mathlib.Omega.{arith}
 use lib.Dec.{eqb, ltb}
@@ -13,21 +13,11 @@ use Rattle.laws.proofs.Sums.{all-weaken}
 use Rattle.cube.specs.Cube.{cubeEdgeCount, cornerX, cornerY, cornerZ, edgeBetween, crossed as cubeCrossed}
 use Rattle.cube.specs.Answer.{triangles}
 use Rattle.cube.proofs.Cases.{CrossedEdge, CrossedSide, edge-between, sides-crossed}
-use Rattle.grid.specs.Grid.{Size, sampleCount, edgeCount, site, coordinate, side, along, otherEnd, fitsAlong, isThere, isOutermost, crossedFrom, crossed, onFaceFrom, onFace}
+use Rattle.grid.specs.Grid.{Size, sampleCount, edgeCount, coordinate, side, along, otherEnd, fitsAlong, isThere, isOutermost, crossedFrom, crossed, onFaceFrom, onFace}
 use Rattle.grid.specs.Mode.{Mode, cubes, directionOf, high, CubeEdge, crossedIn, CutEdge, CutSide, SidesCut}
 use Rattle.grid.specs.Mesh.{cornerSite, gridEdge}
 use Rattle.grid.proofs.Sites.{choose, site-add, site-small, coordinate-site}
 use Rattle.grid.proofs.Crossings.{edge-sample, edge-code, edge-small, crossed-at, on-face-at}
-
--- a corner from its coordinates
-every-corner : allTo 8 (λ c. eqb (cornerX c + 2 * cornerY c + 4 * cornerZ c) c) ≡ true
-unfolding allTo
-every-corner = refl
-
-corner-of : (c : ℕ) → c < 8 → cornerX c + 2 * cornerY c + 4 * cornerZ c ≡ c
-corner-of c h =
-    eqb-true (cornerX c + 2 * cornerY c + 4 * cornerZ c) c
-    (all-at 8 (λ c. eqb (cornerX c + 2 * cornerY c + 4 * cornerZ c) c) every-corner c h)
 
 -- whether a number is that of an edge of the cube, as a test to be computed
 unfoldable pub isCubeEdge : Mode → ℕ → Bool
@@ -130,32 +120,66 @@ module _ (m : Mode) (n : Size) (x y z e : ℕ) (edge : CubeEdge m e) where
             unfold onFaceFrom isOutermost in
             rw (flat, at axis, eq-eqb (choose axis (x + cornerX low) (y + cornerY low) (z + cornerZ low)) (cond last (side n axis - 1) 0) end)
 
--- a cube of the grid
-module _ (n : Size) (x y z : ℕ) (hx : x + 1 < n .nx) (hy : y + 1 < n .ny) (hz : z + 1 < n .nz) where
-  corner-one-to-one : (c d : ℕ) → c < 8 → d < 8 → cornerSite n x y z c ≡ cornerSite n x y z d → c ≡ d
+-- a corner's coordinate along an axis
+corner-at : (x y z c axis : ℕ) → axis < 3 → choose axis (x + cornerX c) (y + cornerY c) (z + cornerZ c) ≡ choose axis x y z + along c axis
+corner-at x y z c zero l = omega arith
+corner-at x y z c (suc zero) l = omega arith
+corner-at x y z c (suc (suc zero)) l = omega arith
+corner-at x y z c (suc (suc (suc axis))) l = absurd (omega arith)
+
+-- an edge that runs along an axis leaves a corner at the low side across it
+pub edge-within : (m : Mode) (e axis : ℕ) → axis < 3 → CubeEdge m e → along (m .low e) axis + along (directionOf m e) axis ≤ 1
+edge-within m e zero l c = omega (arith, c .step-x)
+edge-within m e (suc zero) l c = omega (arith, c .step-y)
+edge-within m e (suc (suc zero)) l c = omega (arith, c .step-z)
+edge-within m e (suc (suc (suc axis))) l c = absurd (omega arith)
+
+-- edge e of the cube at (x, y, z) and edge f of the cube at (x′, y′, z′): the same edge of the kind, and they leave from the same coordinates
+pub record SameEdge (m : Mode) (x y z x′ y′ z′ e f : ℕ) : Type 0 where
+  pub alike : m .code e ≡ m .code f
+  pub stand : (axis : ℕ) → axis < 3 → choose axis x y z + along (m .low e) axis ≡ choose axis x′ y′ z′ + along (m .low f) axis
+
+-- two cubes of the grid
+module _ (n : Size) (x y z x′ y′ z′ : ℕ) (hx : x + 1 < n .nx) (hy : y + 1 < n .ny) (hz : z + 1 < n .nz) (hx′ : x′ + 1 < n .nx) (hy′ : y′ + 1 < n .ny)
+    (hz′ : z′ + 1 < n .nz) where
+  corner-shared : (c d : ℕ) → cornerSite n x y z c ≡ cornerSite n x′ y′ z′ d → (axis : ℕ) → axis < 3 → choose axis x y z + along c axis ≡ choose axis x′ y′ z′ + along d axis
   unfolding cornerSite
-  corner-one-to-one c d h l q =
-      let at : (c axis : ℕ) → coordinate n axis (site n (x + cornerX c) (y + cornerY c) (z + cornerZ c)) ≡ _
-      = λ c axis. coordinate-site n (x + cornerX c) (y + cornerY c) (z + cornerZ c) (omega arith) (omega arith) (omega arith) axis in
-      let same : (axis : ℕ) → _ = λ axis. sym (at c axis) ∙ ap (coordinate n axis) q ∙ at d axis in
-      sym (corner-of c h) ∙ sum-same (cancel x _ _ (same 0)) (cancel y _ _ (same 1)) (cancel z _ _ (same 2)) ∙ corner-of d l
-    where
-      cancel : (k a b : ℕ) → k + a ≡ k + b → a ≡ b
-      cancel k a b e = omega arith
+  corner-shared c d q axis l =
+      sym (corner-at x y z c axis l)
+      ∙ sym (coordinate-site n (x + cornerX c) (y + cornerY c) (z + cornerZ c) (omega arith) (omega arith) (omega arith) axis)
+      ∙ ap (coordinate n axis) q
+      ∙ coordinate-site n (x′ + cornerX d) (y′ + cornerY d) (z′ + cornerZ d) (omega arith) (omega arith) (omega arith) axis
+      ∙ corner-at x′ y′ z′ d axis l
 
-      sum-same : {a b c d e f : ℕ} → a ≡ d → b ≡ e → c ≡ f → a + 2 * b + 4 * c ≡ d + 2 * e + 4 * f
-      sum-same p q r = omega arith
-
-  -- one grid edge is one edge of the cube
-  pub grid-edge-one-to-one : (m : Mode) (e f : ℕ) → CubeEdge m e → CubeEdge m f → gridEdge m n x y z e ≡ gridEdge m n x y z f
-      → (m .low e ≡ m .low f) × (m .code e ≡ m .code f)
+  pub same-grid-edge : (m : Mode) (e f : ℕ) → CubeEdge m e → CubeEdge m f → gridEdge m n x y z e ≡ gridEdge m n x′ y′ z′ f → SameEdge m x y z x′ y′ z′ e f
   unfolding gridEdge
-  grid-edge-one-to-one m e f p r q =
+  same-grid-edge m e f p r q =
       let many = m .kind .many in
-      let s : cornerSite n x y z (m .low e) ≡ cornerSite n x y z (m .low f)
-      = sym (edge-sample many _ (m .code e) (p .coded)) ∙ ap (λ g. g / many) q ∙ edge-sample many _ (m .code f) (r .coded) in
-      let a : m .code e ≡ m .code f = sym (edge-code many _ (m .code e) (p .coded)) ∙ ap (λ g. g % many) q ∙ edge-code many _ (m .code f) (r .coded) in
-      (corner-one-to-one (m .low e) (m .low f) (omega (arith, p .ends)) (omega (arith, r .ends)) s, a)
+      record {
+        alike = sym (edge-code many _ (m .code e) (p .coded)) ∙ ap (λ g. g % many) q ∙ edge-code many _ (m .code f) (r .coded);
+        stand =
+            corner-shared (m .low e) (m .low f)
+            (sym (edge-sample many _ (m .code e) (p .coded)) ∙ ap (λ g. g / many) q ∙ edge-sample many _ (m .code f) (r .coded));
+      }
+
+-- a corner from its coordinates
+every-corner : allTo 8 (λ c. eqb (along c 0 + 2 * along c 1 + 4 * along c 2) c) ≡ true
+unfolding allTo
+every-corner = refl
+
+corner-of : (c : ℕ) → c < 8 → along c 0 + 2 * along c 1 + 4 * along c 2 ≡ c
+corner-of c h = eqb-true (along c 0 + 2 * along c 1 + 4 * along c 2) c (all-at 8 (λ c. eqb (along c 0 + 2 * along c 1 + 4 * along c 2) c) every-corner c h)
+
+same-corner : (c d : ℕ) → c < 8 → d < 8 → ((axis : ℕ) → axis < 3 → along c axis ≡ along d axis) → c ≡ d
+same-corner c d h l same =
+    sym (corner-of c h) ∙ rw (same 0 (omega arith), same 1 (omega arith), same 2 (omega arith)) (corner-of d l)
+
+-- in one cube, one grid edge is one edge of the cube
+pub grid-edge-one-to-one : (n : Size) (x y z : ℕ) → x + 1 < n .nx → y + 1 < n .ny → z + 1 < n .nz → (m : Mode) (e f : ℕ) → CubeEdge m e → CubeEdge m f
+    → gridEdge m n x y z e ≡ gridEdge m n x y z f → (m .low e ≡ m .low f) × (m .code e ≡ m .code f)
+grid-edge-one-to-one n x y z hx hy hz m e f p r q =
+    let same = same-grid-edge n x y z x y z hx hy hz hx hy hz m e f p r q in
+    (same-corner (m .low e) (m .low f) (omega (arith, p .ends)) (omega (arith, r .ends)) (λ axis l. omega (arith, same .stand axis l)), same .alike)
 
 -- what the mode of whole cubes owes: the twelve edges are edges of the cube, and by the table the sides of a case's triangles join two different crossed ones
 every-cube-edge : allTo cubeEdgeCount (isCubeEdge cubes) ≡ true

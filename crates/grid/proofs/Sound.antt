@@ -79,7 +79,7 @@ module _ (m : Mode) (n : Size) (above : ℕ → Bool) where
   along-range : (m : ℕ) (f : ℕ → List Triangle) → ((i : ℕ) → i < m → All EdgeSide (sides (f i))) → All EdgeSide (sides (joinTo m f))
   along-range m f h = of-join (λ ts. All EdgeSide (sides ts)) nothing joined m f h
 
-  edges-sound : SidesCut m → All EdgeSide (sides (edgeMesh m n above))
+  pub edges-sound : SidesCut m → All EdgeSide (sides (edgeMesh m n above))
   unfolding edgeMesh joinBox
   edges-sound owed = along-range (n .nz - 1) _ (λ z hz. along-range (n .ny - 1) _ (λ y hy. along-range (n .nx - 1) _ (λ x hx. cube-sound x y z hx hy hz owed)))
 

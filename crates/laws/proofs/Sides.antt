@@ -1,19 +1,19 @@
 -- What arrows and the sides of triangles weigh together: joined, turned round, renamed, rearranged. Each law holds for every weight.
 use mathlib.Core.Path.{_≡_, refl, ap, ap₂, _∙_}
 use mathlib.Core.List.{List, [], _∷_, _++_, map, flatMap}
-use mathlib.Core.Bool.{true}
+use mathlib.Core.Bool.{true, _&&_}
 use Prim.Native.Nat.{ℕ, zero, suc, _+_, _*_, _<_, _≤_}
 use native.Mathlib.Omega.{arith}
 use lib.Dec.{eqb}
 use borrow.Author.Tests.{eqb-true, eq-eqb}
 use lib.ListN.{length}
-use Rattle.laws.specs.Range.{joinTo}
+use Rattle.laws.specs.Range.{one-if, joinTo}
 use Rattle.laws.specs.Sum.{sumOf, All}
 use Rattle.laws.specs.Order.{rearranged, single}
 use Rattle.laws.specs.Mesh.{Arrow, arrow, sameArrow, flip, Triangle, rename, sides, total, times, cornersOf, flat}
-use Rattle.laws.proofs.Tests.{both}
+use Rattle.laws.proofs.Tests.{both, one-if-le}
 use Rattle.laws.proofs.Ranges.{length-flat}
-use Rattle.laws.proofs.Sums.{sum-append, sum-map, all-weaken}
+use Rattle.laws.proofs.Sums.{sum-append, sum-map, sum-le, all-weaken}
 use Rattle.laws.proofs.Rearranged.{sum-rearranged}
 use Rattle.laws.proofs.Single.{single-most}
 
@@ -62,6 +62,24 @@ single-times ss h a b = single-most sameArrow (arrow a b) alike ss h
   where
     alike : (x y : Arrow) → sameArrow x (arrow a b) ≡ true → sameArrow y (arrow a b) ≡ true → sameArrow x y ≡ true
     alike x y p q = rw (same-arrow x (arrow a b) p, same-arrow y (arrow a b) q) (unfold sameArrow in rw (eq-eqb a a refl, eq-eqb b b refl))
+
+-- renamed in two ways: where an end that is a or b by the first is c or d by the second, no more arrows run from a to b by the first than from c to d by the second
+pub times-le : (P : ℕ → Type 0) (f g : ℕ → ℕ) (a b c d : ℕ) → ((i : ℕ) → P i → f i ≡ a → g i ≡ c) → ((i : ℕ) → P i → f i ≡ b → g i ≡ d)
+    → (ss : List Arrow) → All (λ s. P (s .from) × P (s .to)) ss
+    → total (λ i j. one-if (eqb (f i) a && eqb (f j) b)) ss ≤ total (λ i j. one-if (eqb (g i) c && eqb (g j) d)) ss
+unfolding total
+times-le P f g a b c d start end ss ends =
+    sum-le (λ s. P (s .from) × P (s .to)) (λ s. one-if (eqb (f (s .from)) a && eqb (f (s .to)) b)) (λ s. one-if (eqb (g (s .from)) c && eqb (g (s .to)) d)) one ss ends
+  where
+    one : (s : Arrow) → P (s .from) × P (s .to) → one-if (eqb (f (s .from)) a && eqb (f (s .to)) b) ≤ one-if (eqb (g (s .from)) c && eqb (g (s .to)) d)
+    one s p =
+        one-if-le (eqb (f (s .from)) a && eqb (f (s .to)) b) (eqb (g (s .from)) c && eqb (g (s .to)) d)
+        (λ t.
+        let h = both (eqb (f (s .from)) a) (eqb (f (s .to)) b) t in
+        rw (
+          eq-eqb (g (s .from)) c (start (s .from) (p .0) (eqb-true (f (s .from)) a (h .0))),
+          eq-eqb (g (s .to)) d (end (s .to) (p .1) (eqb-true (f (s .to)) b (h .1))),
+        ))
 
 -- what holds of the sides of triangles, after their corners were renamed
 pub all-renamed : (P : Arrow → Type 0) (f : ℕ → ℕ) (ts : List Triangle) → All (λ a. P (arrow (f (a .from)) (f (a .to)))) (sides ts)

@@ -45,6 +45,10 @@ pub all-both : {A : Type 0} (P Q : A → Type 0) (xs : List A) → All P xs → 
 all-both P Q [] a b = tt
 all-both P Q (x ∷ xs) a b = ((a .0, b .0), all-both P Q xs (a .1) (b .1))
 
+pub all-any : {A : Type 0} (P : A → Type 0) → ((a : A) → P a) → (xs : List A) → All P xs
+all-any P h [] = tt
+all-any P h (x ∷ xs) = (h x, all-any P h xs)
+
 -- each element's image is in the list's image
 pub all-mapped : {A B : Type 0} (f : A → B) (xs : List A) → All (λ x. List·Memᴰ (f x) (map f xs)) xs
 all-mapped f [] = tt
@@ -71,7 +75,7 @@ unfolding sumOf
 sum-le P u v h [] a = omega arith
 sum-le P u v h (x ∷ xs) a = omega (arith, h x (a .0), sum-le P u v h xs (a .1))
 
--- elements that fail a test may be left out where they are worth nothing, and never make a sum smaller
+-- elements that fail a test may be left out where they are worth nothing
 module _ {A : Type 0} (p : A → Bool) (v : A → ℕ) where
   pub sum-kept : ((a : A) → p a ≡ false → v a ≡ 0) → (xs : List A) → sumOf v (keepOf p xs) ≡ sumOf v xs
   unfolding sumOf keepOf
@@ -81,15 +85,6 @@ module _ {A : Type 0} (p : A → Bool) (v : A → ℕ) where
       go : (b : Bool) → p x ≡ b → sumOf v (keepOf p xs) ≡ sumOf v xs → sumOf v (cond b (x ∷ keepOf p xs) (keepOf p xs)) ≡ v x + sumOf v xs
       go true e later = omega (arith, later)
       go false e later = omega (arith, later, none x e)
-
-  pub sum-kept-le : (xs : List A) → sumOf v (keepOf p xs) ≤ sumOf v xs
-  unfolding sumOf keepOf
-  sum-kept-le [] = omega arith
-  sum-kept-le (x ∷ xs) = go (p x) (sum-kept-le xs)
-    where
-      go : (b : Bool) → sumOf v (keepOf p xs) ≤ sumOf v xs → sumOf v (cond b (x ∷ keepOf p xs) (keepOf p xs)) ≤ v x + sumOf v xs
-      go true later = omega (arith, later)
-      go false later = omega (arith, later)
 
 -- where the elements are worth something together, one of them is
 pub some-of : {A R : Type 0} (P : A → Type 0) (v : A → ℕ) (xs : List A) → All P xs → 0 < sumOf v xs → ((a : A) → P a → 0 < v a → R) → R

@@ -1,6 +1,6 @@
 -- A test over a whole range, a whole list or all rows of Booleans, closed by one computation, put to use at one entry.
 use mathlib.Core.Path.{_≡_, refl, sym}
-use mathlib.Core.Bool.{Bool, true, false, _&&_, and-eq-true-iff, and-false, _||_, xor, true≢false}
+use mathlib.Core.Bool.{Bool, true, false, not, _&&_, and-eq-true-iff, and-false, _||_, xor, true≢false, false≢true}
 use mathlib.Core.Logic.{_⊎_, inl, inr}
 use mathlib.Core.List.{List, [], _∷_}
 use Prim.Native.Nat.{ℕ, zero, suc, _+_, _<_, _≤_}
@@ -120,3 +120,29 @@ same-ends false = refl
 pub is-none : (b : Bool) → one-if b ≡ 0 → b ≡ false
 is-none true h = absurd (omega arith)
 is-none false h = refl
+
+-- a test that counts something passed
+pub is-one : (b : Bool) → 0 < one-if b → b ≡ true
+is-one true h = refl
+is-one false h = absurd (omega arith)
+
+-- a test lets another pass: where the first passed the second does, and the first counts no more
+pub let-pass : (a b : Bool) → (not a || b) ≡ true → a ≡ true → b ≡ true
+let-pass true b h e = h
+let-pass false b h e = absurd (false≢true e)
+
+pub one-if-le : (a b : Bool) → (a ≡ true → b ≡ true) → one-if a ≤ one-if b
+one-if-le true b h = rw (h refl) (omega arith)
+one-if-le false true h = omega arith
+one-if-le false false h = omega arith
+
+-- of three tests no two of which pass together, as many pass as one of them passes
+pub one-of-three : (a b c : Bool) → (a ≡ true → b ≡ true → ⊥) → (b ≡ true → c ≡ true → ⊥) → (a ≡ true → c ≡ true → ⊥)
+    → one-if a + one-if b + one-if c ≡ one-if (a || (b || c))
+one-of-three true true c ab bc ac = absurd (ab refl refl)
+one-of-three true false true ab bc ac = absurd (ac refl refl)
+one-of-three true false false ab bc ac = refl
+one-of-three false true true ab bc ac = absurd (bc refl refl)
+one-of-three false true false ab bc ac = refl
+one-of-three false false true ab bc ac = refl
+one-of-three false false false ab bc ac = refl
