@@ -17,7 +17,7 @@
 #define THOLBRINA_H
 
 /* The version of the library, the header and the programs. A change of a call, a record or a text raises the second number. */
-#define THOLBRINA_VERSION "0.2.0"
+#define THOLBRINA_VERSION "0.3.0"
 
 #include <stddef.h>
 #include <stdint.h>
