@@ -70,6 +70,8 @@ static inline size_t tholbrina_extract_work(size_t nx, size_t ny, size_t nz) {
  *   marks      1 for a point whose grid edge lies on an outer face of the grid, else 0
  *   triangles  three point numbers a triangle, cube by cube, x fastest, then y, then z; counterclockwise as seen from the side below, save where
  *              points share a place or a loop is bent
+ * No two triangles run from one point to another the same way, and where two points that are joined by a triangle side do not lie on one outer face of
+ * the grid, one triangle runs each way: a structure of half edges takes the mesh as it is, and has edges without a twin on outer faces only.
  * A room for points or triangles counts its whole threes. *point_count and *triangle_count say how many of each there are. A mesh may be empty: grey
  * value 0 gives an empty one, since all samples are at least 0.
  *
