@@ -1,4 +1,5 @@
-//! One cube: corners, cube edges, the face rule, loops and fans.
+//! One cube: corners, cube edges, the face rule, loops and fans, whose start is
+//! the one of request (ii) of document 02.
 //!
 //! Nothing here is a table: the cases are computed from the face rule, and the
 //! faces are computed from the corner coordinates.
@@ -203,16 +204,70 @@ pub fn loops(case: u8) -> Vec<Vec<u8>> {
     loops
 }
 
-/// "A loop e0, e1, e2, e3, .. that starts at its lowest edge gives the fan
-/// (e0,e1,e2), (e0,e2,e3) and so on."
+/// The fan of a loop e0, e1, e2, e3, .. as it runs from its start:
+/// "(e0,e1,e2), (e0,e2,e3) and so on."
+fn fan(ring: &[u8]) -> Vec<[u8; 3]> {
+    ring[1..]
+        .windows(2)
+        .map(|pair| [ring[0], pair[0], pair[1]])
+        .collect()
+}
+
+/// Whether two edges are "edges of one cube face": their four ends have one
+/// coordinate in common.
+pub fn in_one_face(one: u8, other: u8) -> bool {
+    let ends = [one, other].map(|edge| {
+        let (_, low, high) = edge_ends(edge);
+        [corner_place(low), corner_place(high)]
+    });
+    let first = ends[0][0];
+    (0..3).any(|axis| ends.iter().flatten().all(|end| end[axis] == first[axis]))
+}
+
+/// Whether an inner diagonal of the fan of this loop "joins two edges of one
+/// cube face".
+///
+/// The inner diagonals of a loop e0, e1, .. ek lead from e0 to e2 and so on up
+/// to e(k−1); a loop of three has none.
+fn has_diagonal_in_a_face(ring: &[u8]) -> bool {
+    ring[2..ring.len() - 1]
+        .iter()
+        .any(|&end| in_one_face(ring[0], end))
+}
+
+/// A loop from each of its edges "for which no inner diagonal joins two edges
+/// of one cube face", the lowest of these edges first.
+pub fn runs_off_the_faces(ring: &[u8]) -> Vec<Vec<u8>> {
+    let mut runs: Vec<Vec<u8>> = (0..ring.len())
+        .map(|start| [&ring[start..], &ring[..start]].concat())
+        .filter(|run| !has_diagonal_in_a_face(run))
+        .collect();
+    runs.sort_by_key(|run| run[0]);
+    runs
+}
+
+/// "The fan shall start at the lowest edge of its loop for which no inner
+/// diagonal joins two edges of one cube face."
+pub fn from_its_start(ring: &[u8]) -> Vec<u8> {
+    runs_off_the_faces(ring)
+        .into_iter()
+        .next()
+        .expect("every loop has such an edge")
+}
+
+/// The triangles of a case: the fans of its loops, each from its start.
 pub fn triangles(case: u8) -> Vec<[u8; 3]> {
-    let mut triangles = Vec::new();
-    for ring in loops(case) {
-        for pair in ring[1..].windows(2) {
-            triangles.push([ring[0], pair[0], pair[1]]);
-        }
-    }
-    triangles
+    loops(case)
+        .iter()
+        .flat_map(|ring| fan(&from_its_start(ring)))
+        .collect()
+}
+
+/// The triangles of a case by document 01 alone: "A loop e0, e1, e2, e3, ..
+/// that starts at its lowest edge gives the fan (e0,e1,e2), (e0,e2,e3) and so
+/// on."
+pub fn triangles_of_document_01(case: u8) -> Vec<[u8; 3]> {
+    loops(case).iter().flat_map(|ring| fan(ring)).collect()
 }
 
 /// The number of triangles of a case.

@@ -1,5 +1,6 @@
 //! The extractor: checks, counts and rooms.
 
+use crate::cube;
 use crate::grid::Grid;
 use crate::mesh::{MOST_POINTS, MOST_TRIANGLES};
 
@@ -23,6 +24,25 @@ fn refused(number: u32) -> Extracted {
     }
 }
 
+/// Refusals 1, 2 and 3, in this order; 0 if there is none.
+fn check(sides: [u32; 3], samples: usize, work: usize) -> u32 {
+    // "a side is below 2 or above 64"
+    if sides.iter().any(|side| !(2..=64).contains(side)) {
+        return 1;
+    }
+    // Each side is at most 64 here, so the product is small.
+    let sample_count = sides.iter().product::<u32>() as usize;
+    // "samples are not nx·ny·nz"
+    if samples != sample_count {
+        return 2;
+    }
+    // "a work or result room of fixed length has another length"
+    if work != 3 * sample_count {
+        return 3;
+    }
+    0
+}
+
 /// "The extractor fills points (three u32 each), edge numbers, marks and
 /// triangles from the front of the lent rooms; the rest of each room stays. Its
 /// work room has exactly 3·nx·ny·nz numbers."
@@ -43,20 +63,41 @@ pub fn extract(
     triangles: &mut [u32],
     work: &mut [u32],
 ) -> Extracted {
+    extract_by(
+        cube::triangles,
+        nx,
+        ny,
+        nz,
+        grey,
+        samples,
+        points,
+        edges,
+        marks,
+        triangles,
+        work,
+    )
+}
+
+/// [`extract`] with a case's triangles as `of_case` answers them:
+/// [`cube::triangles`], or [`cube::triangles_of_document_01`] to compare with.
+#[allow(clippy::too_many_arguments)]
+pub fn extract_by(
+    of_case: fn(u8) -> Vec<[u8; 3]>,
+    nx: u32,
+    ny: u32,
+    nz: u32,
+    grey: u16,
+    samples: &[u16],
+    points: &mut [u32],
+    edges: &mut [u32],
+    marks: &mut [u8],
+    triangles: &mut [u32],
+    work: &mut [u32],
+) -> Extracted {
     let sides = [nx, ny, nz];
-    // "a side is below 2 or above 64"
-    if sides.iter().any(|side| !(2..=64).contains(side)) {
-        return refused(1);
-    }
-    // Each side is at most 64 here, so the products below are small.
-    let sample_count = (nx * ny * nz) as usize;
-    // "samples are not nx·ny·nz"
-    if samples.len() != sample_count {
-        return refused(2);
-    }
-    // "a work or result room of fixed length has another length"
-    if work.len() != 3 * sample_count {
-        return refused(3);
+    let number = check(sides, samples.len(), work.len());
+    if number != 0 {
+        return refused(number);
     }
     work.fill(0);
 
@@ -71,7 +112,7 @@ pub fn extract(
     if point_list.len() > MOST_POINTS.min(point_room) {
         return refused(4);
     }
-    let triangle_list = grid.triangles(&point_list);
+    let triangle_list = grid.triangles(&point_list, of_case);
     // "triangles exceed 500,000 or their room"
     let triangle_room = triangles.len() / 3;
     if triangle_list.len() > MOST_TRIANGLES.min(triangle_room) {

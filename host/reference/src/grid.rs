@@ -100,8 +100,13 @@ impl Grid<'_> {
     /// "Triangles come cube by cube, x fastest, then y, then z, in the case's
     /// order."
     ///
-    /// `points` is the list of [`Grid::points`].
-    pub(crate) fn triangles(&self, points: &[Point]) -> Vec<[u32; 3]> {
+    /// `points` is the list of [`Grid::points`], and `of_case` answers the
+    /// triangles of a case.
+    pub(crate) fn triangles(
+        &self,
+        points: &[Point],
+        of_case: fn(u8) -> Vec<[u8; 3]>,
+    ) -> Vec<[u32; 3]> {
         let mut number_of = vec![None; 3 * self.samples.len()];
         for (number, point) in (0..).zip(points) {
             number_of[point.edge as usize] = Some(number);
@@ -111,7 +116,7 @@ impl Grid<'_> {
         let mut triangles = Vec::new();
         for at in places(self.sides.map(|side| side - 1)) {
             let case = self.case(at);
-            for triangle in cases[usize::from(case)].get_or_insert_with(|| cube::triangles(case)) {
+            for triangle in cases[usize::from(case)].get_or_insert_with(|| of_case(case)) {
                 triangles.push(triangle.map(|cube_edge| {
                     let (axis, low, _) = ends[usize::from(cube_edge)];
                     let low_end = shifted(at, cube::corner_place(low));

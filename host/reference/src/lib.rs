@@ -1,5 +1,6 @@
 //! A plain reading of document 01 ("Requirements of the build and its rules")
-//! and of request (i) of document 02 ("Hear the box of a void").
+//! and of requests (i) and (ii) of document 02 ("Hear the box of a void", "Flat
+//! triangles in a cube face").
 //!
 //! The crate was written from these documents alone. It is a second program to
 //! compare a proved library with, bit for bit: same answers, same content of

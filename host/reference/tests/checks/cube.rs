@@ -1,7 +1,7 @@
 //! One cube: the figures and the face rule over all cases.
 
 use reference::cube;
-use std::collections::BTreeSet;
+use std::collections::{BTreeMap, BTreeSet};
 
 /// Twice the middle of a cube edge.
 fn middle(edge: u8) -> [i32; 3] {
@@ -30,11 +30,19 @@ fn figures() {
         (254, &[[0, 8, 4]]),
         (3, &[[4, 8, 9], [4, 9, 5]]),
         (9, &[[0, 4, 8], [1, 5, 11]]),
-        (246, &[[0, 8, 4], [0, 4, 1], [0, 1, 11], [0, 11, 5]]),
+        (246, &[[8, 4, 1], [8, 1, 11], [8, 11, 5], [8, 5, 0]]),
     ];
     for (case, triangles) in figures {
         assert_eq!(cube::triangles(case), triangles, "case {case}");
     }
+}
+
+#[test]
+fn figure_of_document_01() {
+    assert_eq!(
+        cube::triangles_of_document_01(246),
+        [[0, 8, 4], [0, 4, 1], [0, 1, 11], [0, 11, 5]]
+    );
 }
 
 #[test]
@@ -205,16 +213,22 @@ fn neighbours_cut_their_common_face_alike() {
     assert_eq!(met, 3 * 256 * 16);
 }
 
+/// The sides of triangles as they run.
+fn sides(triangles: &[[u8; 3]]) -> Vec<(u8, u8)> {
+    triangles
+        .iter()
+        .flat_map(|&[a, b, c]| [(a, b), (b, c), (c, a)])
+        .collect()
+}
+
 /// Each triangle side is a segment, or a diagonal that its loop runs both ways.
 #[test]
 fn the_sides_of_the_triangles_balance_to_the_segments() {
     for case in 0..=u8::MAX {
         let mut balance = [[0; 12]; 12];
-        for [a, b, c] in cube::triangles(case) {
-            for (from, to) in [(a, b), (b, c), (c, a)] {
-                balance[usize::from(from)][usize::from(to)] += 1;
-                balance[usize::from(to)][usize::from(from)] -= 1;
-            }
+        for (from, to) in sides(&cube::triangles(case)) {
+            balance[usize::from(from)][usize::from(to)] += 1;
+            balance[usize::from(to)][usize::from(from)] -= 1;
         }
         for (from, to) in cube::segments(case) {
             balance[usize::from(from)][usize::from(to)] -= 1;
@@ -240,6 +254,119 @@ fn loops_start_at_their_lowest_edge_and_come_in_its_order() {
         assert_eq!(edges, crossed);
         assert_eq!(loops.concat().len(), edges.len());
     }
+}
+
+/// Two cube edges lie in one face when their middles have a coordinate of 0 or
+/// of 2, both the same.
+fn in_one_face(one: u8, other: u8) -> bool {
+    let (one, other) = (middle(one), middle(other));
+    (0..3).any(|axis| one[axis] == other[axis] && one[axis] != 1)
+}
+
+#[test]
+fn edges_of_one_face_are_told_by_their_middles() {
+    for one in 0..cube::EDGES {
+        for other in 0..cube::EDGES {
+            let together = in_one_face(one, other);
+            assert_eq!(cube::in_one_face(one, other), together, "{one} and {other}");
+        }
+    }
+    assert!(in_one_face(0, 4) && !in_one_face(0, 3) && !in_one_face(0, 11));
+}
+
+/// Each loop with the edges at which its fan may start, by a second way: inner
+/// diagonals lead from the start to all edges but those beside it in the loop.
+fn loops_and_starts() -> Vec<(Vec<u8>, Vec<u8>)> {
+    let may_start = |ring: &[u8], start: u8| {
+        let at = ring.iter().position(|&edge| edge == start).unwrap();
+        let beside = [at + 1, at + ring.len() - 1].map(|next| ring[next % ring.len()]);
+        ring.iter()
+            .filter(|&&edge| edge != start && !beside.contains(&edge))
+            .all(|&edge| !in_one_face(start, edge))
+    };
+    (0..=u8::MAX)
+        .flat_map(cube::loops)
+        .map(|ring| {
+            let mut starts = ring.clone();
+            starts.retain(|&start| may_start(&ring, start));
+            starts.sort_unstable();
+            (ring, starts)
+        })
+        .collect()
+}
+
+#[test]
+fn every_loop_has_a_start_and_runs_on_from_the_lowest() {
+    for (ring, starts) in loops_and_starts() {
+        let runs = cube::runs_off_the_faces(&ring);
+        let found: Vec<u8> = runs.iter().map(|run| run[0]).collect();
+        assert_eq!(found, starts, "loop {ring:?}");
+        let run = cube::from_its_start(&ring);
+        assert_eq!(run[0], starts[0], "loop {ring:?}");
+        let next = |edges: &[u8], edge| {
+            let at = edges.iter().position(|&e| e == edge).unwrap();
+            edges[(at + 1) % edges.len()]
+        };
+        assert_eq!(run.len(), ring.len());
+        for &edge in &ring {
+            assert_eq!(next(&run, edge), next(&ring, edge), "loop {ring:?}");
+        }
+    }
+}
+
+/// How many loops there are of each length and with each number of starts.
+#[test]
+fn loops_by_length_and_starts() {
+    let mut classes = BTreeMap::new();
+    for (ring, starts) in loops_and_starts() {
+        *classes.entry((ring.len(), starts.len())).or_insert(0) += 1;
+    }
+    let wanted = [
+        ((3, 3), 144),
+        ((4, 4), 66),
+        ((5, 5), 72),
+        ((6, 2), 12),
+        ((6, 6), 40),
+        ((7, 3), 24),
+    ];
+    assert_eq!(classes, BTreeMap::from(wanted));
+}
+
+#[test]
+fn eighteen_cases_differ_from_document_01_and_none_in_its_count() {
+    let mut differing = Vec::new();
+    for case in 0..=u8::MAX {
+        let (new, old) = (cube::triangles(case), cube::triangles_of_document_01(case));
+        assert_eq!(new.len(), old.len(), "case {case}");
+        if new != old {
+            differing.push(case);
+        }
+    }
+    let wanted = [
+        91, 94, 111, 118, 123, 159, 167, 173, 183, 185, 217, 218, 222, 229, 230, 237, 246, 249,
+    ];
+    assert_eq!(differing, wanted);
+}
+
+/// No side is run twice the same way, and one that lies in a cube face is a
+/// segment of it; by document 01's fans case 246 has sides that are not.
+#[test]
+fn sides_come_once_and_those_in_a_face_are_its_segments() {
+    let flat = |triangles: &[[u8; 3]], case| -> Vec<(u8, u8)> {
+        let segments = cube::segments(case);
+        let mut in_faces = sides(triangles);
+        in_faces.retain(|side| in_one_face(side.0, side.1) && !segments.contains(side));
+        in_faces
+    };
+    for case in 0..=u8::MAX {
+        let triangles = cube::triangles(case);
+        let all = sides(&triangles);
+        let different: BTreeSet<_> = all.iter().collect();
+        assert_eq!(different.len(), all.len(), "case {case}");
+        assert_eq!(flat(&triangles, case), [], "case {case}");
+    }
+    let old = cube::triangles_of_document_01(246);
+    assert_eq!(flat(&old, 246), [(4, 0), (0, 4), (1, 0), (0, 1)]);
 }
 
 /// "So the triangle's right-hand normal points from above to below": a corner

@@ -6,7 +6,7 @@ use reference::cube;
 use reference::extract::{extract, Extracted};
 use reference::grid::offset;
 use reference::smooth::smooth;
-use std::collections::BTreeMap;
+use std::collections::{BTreeMap, BTreeSet};
 
 /// All rooms of one call.
 #[derive(Clone, PartialEq, Debug)]
@@ -393,30 +393,29 @@ fn outer_faces(grid: &Grid, edge: u32) -> u32 {
     faces
 }
 
-/// "Where the mesh was extracted here, smoothed here or not, and two points
-/// don't lie on one outer face of the grid, triangles run from the first to the
-/// second as often as back."
+/// "off the outer faces, two points joined by a triangle side are joined by
+/// exactly one triangle each way." Two points of one outer face are joined by
+/// one triangle at most.
 #[test]
-fn sides_balance_off_the_outer_faces() {
+fn sides_off_the_outer_faces_have_one_side_back() {
     let mut random = Random::new(2);
     let (mut inner, mut rim) = (0, 0);
     for _ in 0..200 {
         let grid = random_grid(&mut random);
         let (mesh, edges) = extracted(&grid);
-        let mut balance: BTreeMap<(u32, u32), i32> = BTreeMap::new();
+        let mut sides = BTreeSet::new();
         for t in mesh.triangles.chunks(3) {
-            for (from, to) in [(t[0], t[1]), (t[1], t[2]), (t[2], t[0])] {
-                *balance.entry((from.min(to), from.max(to))).or_default() +=
-                    if from < to { 1 } else { -1 };
+            for side in [(t[0], t[1]), (t[1], t[2]), (t[2], t[0])] {
+                assert!(sides.insert(side), "a side comes once");
             }
         }
-        for ((a, b), sum) in balance {
+        for &(from, to) in &sides {
             let shared =
-                outer_faces(&grid, edges[a as usize]) & outer_faces(&grid, edges[b as usize]);
+                outer_faces(&grid, edges[from as usize]) & outer_faces(&grid, edges[to as usize]);
+            assert_eq!(sides.contains(&(to, from)), shared == 0);
             if shared == 0 {
                 inner += 1;
-                assert_eq!(sum, 0);
-            } else if sum != 0 {
+            } else {
                 rim += 1;
             }
         }
