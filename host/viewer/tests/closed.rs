@@ -1,43 +1,13 @@
-//! Demand 3's balance, counted by brute force on extracted meshes: between two points that lie on no common outer face, triangles run one way
-//! as often as the other.
+//! Demand 3 counted by brute force on extracted meshes, raw and smoothed: each has half edges, and between two points that lie on no common outer face each
+//! half edge has its twin.
 
+#[path = "tools/half_edges.rs"]
+mod half_edges;
 mod tools;
 
-use tools::{roomy, Rooms, Seed};
-
-/// A mesh that was extracted: the grid edge and the mark of each point, and the triangles.
-struct Mesh {
-    sides: [u32; 3],
-    edges: Vec<u32>,
-    marks: Vec<u8>,
-    triangles: Vec<[u32; 3]>,
-}
-
-fn extracted(sides: [u32; 3], grey: u16, samples: &[u16]) -> Mesh {
-    let mut rooms = Rooms::guarded(roomy(sides));
-    let found = viewer::extract(
-        sides,
-        grey,
-        samples,
-        viewer::Rooms {
-            points: &mut rooms.points,
-            edges: &mut rooms.edges,
-            marks: &mut rooms.marks,
-            triangles: &mut rooms.triangles,
-            work: &mut rooms.work,
-        },
-    );
-    assert_eq!(found.number, 0, "sides {sides:?}");
-    Mesh {
-        sides,
-        edges: rooms.edges[..found.points as usize].to_vec(),
-        marks: rooms.marks[..found.points as usize].to_vec(),
-        triangles: rooms.triangles[..3 * found.triangles as usize]
-            .chunks_exact(3)
-            .map(|t| [t[0], t[1], t[2]])
-            .collect(),
-    }
-}
+use half_edges::{HalfEdges, Twice};
+use tools::{surface_of_document_01, Seed};
+use viewer::Surface;
 
 /// The outer faces that a grid edge lies on, a bit each: across x the first and the last, then across y, then across z.
 fn outer_faces(sides: [u32; 3], edge: u32) -> u8 {
@@ -59,53 +29,53 @@ fn outer_faces(sides: [u32; 3], edge: u32) -> u8 {
     faces
 }
 
-/// Each pair of points that a side joins, the lower first, with how often sides run from the lower to the higher and how often back.
-fn runs(triangles: &[[u32; 3]]) -> Vec<(u32, u32, u32, u32)> {
-    // one number for each side, so that sorting brings those of a pair together: the lower point, the higher, and the way
-    let mut ways: Vec<u64> = triangles
-        .iter()
-        .flat_map(|&[a, b, c]| [(a, b), (b, c), (c, a)])
-        .map(|(p, q)| u64::from(p.min(q)) << 32 | u64::from(p.max(q)) << 1 | u64::from(p < q))
-        .collect();
-    ways.sort_unstable();
-    let mut pairs: Vec<(u32, u32, u32, u32)> = Vec::new();
-    for way in ways {
-        let (p, q, up) = ((way >> 32) as u32, (way as u32) >> 1, way & 1 == 1);
-        match pairs.last_mut() {
-            Some(pair) if (pair.0, pair.1) == (p, q) => {
-                pair.2 += u32::from(up);
-                pair.3 += u32::from(!up);
-            }
-            _ => pairs.push((p, q, u32::from(up), u32::from(!up))),
-        }
-    }
-    pairs
+/// A half edge of a surface: the points that it runs from and to, whether they lie on a common outer face, and whether it has a twin.
+#[derive(Clone, Copy, PartialEq, Eq, Debug)]
+struct Side {
+    points: (u32, u32),
+    outer: bool,
+    twin: bool,
 }
 
-/// The pairs of points that lie on no common outer face and between which triangles do not run one way as often as the other.
-fn slits(mesh: &Mesh) -> Vec<(u32, u32, u32, u32)> {
-    let faces: Vec<u8> = mesh
+fn sides_of(sides: [u32; 3], surface: &Surface) -> Result<Vec<Side>, Twice> {
+    let faces: Vec<u8> = surface
         .edges
         .iter()
-        .map(|&edge| outer_faces(mesh.sides, edge))
+        .map(|&edge| outer_faces(sides, edge))
         .collect();
-    runs(&mesh.triangles)
-        .into_iter()
-        .filter(|&(p, q, there, back)| there != back && faces[p as usize] & faces[q as usize] == 0)
-        .collect()
+    let side = |(points, twin): ((u32, u32), Option<usize>)| Side {
+        points,
+        outer: faces[points.0 as usize] & faces[points.1 as usize] != 0,
+        twin: twin.is_some(),
+    };
+    let half_edges = HalfEdges::of(&surface.triangles)?;
+    Ok(half_edges.all().map(side).collect())
 }
 
-fn closes(sides: [u32; 3], grey: u16, samples: &[u16]) -> Mesh {
-    let mesh = extracted(sides, grey, samples);
-    for (&edge, &mark) in mesh.edges.iter().zip(&mesh.marks) {
+/// The half edges off the outer faces that have no twin.
+fn slits(sides: [u32; 3], surface: &Surface) -> Result<Vec<(u32, u32)>, Twice> {
+    let all = sides_of(sides, surface)?;
+    let slit = all.iter().filter(|side| !side.outer && !side.twin);
+    Ok(slit.map(|side| side.points).collect())
+}
+
+/// The surface of a grid, raw and smoothed, closes: off the outer faces every half edge has its twin. On them none has one.
+fn closes(sides: [u32; 3], grey: u16, samples: &[u16]) -> Surface {
+    let at = format!("sides {sides:?}, grey value {grey}");
+    let raw = Surface::extract(sides, grey, samples).expect(&at);
+    for (&edge, &mark) in raw.edges.iter().zip(&raw.marks) {
         assert_eq!(mark, u8::from(outer_faces(sides, edge) != 0));
     }
-    for &[a, b, c] in &mesh.triangles {
-        assert!(a != b && b != c && c != a);
-        assert!(a.max(b).max(c) < mesh.edges.len() as u32);
+    for t in raw.triangles.chunks_exact(3) {
+        assert!(t[0] != t[1] && t[1] != t[2] && t[2] != t[0]);
+        assert!(t.iter().all(|&point| (point as usize) < raw.edges.len()));
     }
-    assert_eq!(slits(&mesh), [], "sides {sides:?}, grey value {grey}");
-    mesh
+    for surface in [&raw, &raw.smooth(2, 100).expect(&at)] {
+        for side in sides_of(sides, surface).expect(&at) {
+            assert_eq!(side.twin, !side.outer, "{side:?}, {at}");
+        }
+    }
+    raw
 }
 
 fn count(sides: [u32; 3]) -> usize {
@@ -133,21 +103,18 @@ fn wrapped(sides: [u32; 3], samples: &[u16], value: u16) -> ([u32; 3], Vec<u16>)
     (outer, all)
 }
 
-/// Alone, then with a layer of air or of metal all round: there no point lies on an outer face, and every pair has to balance.
+/// Alone, then with a layer of air or of metal all round: there no point lies on an outer face, and every half edge has to have its twin.
 fn closes_in_its_place(corners: u64, sides: [u32; 3]) {
     let samples = bits(corners, sides);
     closes(sides, 50, &samples);
-    let value = if corners.count_ones() % 2 == 0 {
+    let value = if corners.count_ones().is_multiple_of(2) {
         0
     } else {
         100
     };
     let (outer, all) = wrapped(sides, &samples, value);
-    let mesh = closes(outer, 50, &all);
-    assert!(mesh.marks.iter().all(|&mark| mark == 0));
-    assert!(runs(&mesh.triangles)
-        .iter()
-        .all(|&(_, _, there, back)| there == back));
+    let surface = closes(outer, 50, &all);
+    assert!(surface.marks.iter().all(|&mark| mark == 0));
 }
 
 /// Every two cases that agree on their common face, side by side along each axis.
@@ -227,39 +194,98 @@ fn checkerboards_and_long_rows() {
     }
 }
 
-/// Document 01: "Claiming each side is used exactly twice." The upper cube is case 246.
+/// Blocks of 3 samples a side, many of them at the grey value, so that points share places.
 #[test]
-fn a_pair_of_points_joined_by_four_sides() {
-    let samples = [100, 100, 100, 100, 0, 100, 100, 0, 100, 100, 100, 100];
-    let mesh = closes([2, 2, 3], 50, &samples);
-    assert!(runs(&mesh.triangles).contains(&(2, 3, 2, 2)));
+fn plateaus_at_the_grey_value() {
+    let mut seed = Seed::new(14);
+    let sides = [11, 10, 9];
+    let [nx, ny, _] = sides;
+    for values in [[0, 50, 50], [49, 50, 50], [0, 50, 65_535]] {
+        for _ in 0..30 {
+            let blocks: Vec<u16> = (0..64).map(|_| values[seed.below(3) as usize]).collect();
+            let samples: Vec<u16> = (0..count(sides) as u32)
+                .map(|s| [s % nx / 3, s / nx % ny / 3, s / (nx * ny) / 3])
+                .map(|[x, y, z]| blocks[(x + 4 * (y + 4 * z)) as usize])
+                .collect();
+            let surface = closes(sides, 50, &samples);
+            let mut places: Vec<&[u32]> = surface.points.chunks_exact(3).collect();
+            places.sort_unstable();
+            places.dedup();
+            assert!(places.len() < surface.edges.len());
+        }
+    }
 }
 
-/// The count finds a slit: one triangle taken away, one turned round, and case 246 as case 9 reversed.
+/// One sample in ten is below, so that there are hundreds of thousands of sides.
+#[test]
+fn noise_of_64_samples_a_side() {
+    let mut seed = Seed::new(15);
+    let samples: Vec<u16> = (0..64 * 64 * 64)
+        .map(|_| if seed.below(10) == 0 { 10 } else { 1_000 })
+        .collect();
+    let surface = closes([64; 3], 500, &samples);
+    assert!(surface.triangles.len() > 300_000);
+}
+
+/// One corner of a cube is above, and all sides of its triangle lie on outer faces.
+#[test]
+fn sides_on_outer_faces_have_no_twin() {
+    let surface = closes([2, 2, 2], 50, &bits(1, [2, 2, 2]));
+    let lone = [(0, 1), (1, 2), (2, 0)].map(|points| Side {
+        points,
+        outer: true,
+        twin: false,
+    });
+    assert_eq!(sides_of([2, 2, 2], &surface).unwrap(), lone);
+}
+
+/// Two cubes, one on the other: the upper one is case 246, the lower one 111.
+const TWO_CUBES: [u16; 12] = [100, 100, 100, 100, 0, 100, 100, 0, 100, 100, 100, 100];
+
+/// By document 01's fans two sides run from point 2 to point 3, and two back.
+#[test]
+fn the_fans_of_document_01_have_no_half_edges() {
+    let old = surface_of_document_01([2, 2, 3], 50, &TWO_CUBES);
+    assert_eq!(slits([2, 2, 3], &old), Err(Twice((2, 3))));
+    let new = closes([2, 2, 3], 50, &TWO_CUBES);
+    assert_eq!(slits([2, 2, 3], &new), Ok(vec![]));
+}
+
+/// The twin of a half edge runs back, and has it as its own twin. Each cube's loop has four sides on outer faces; the other 16 of all 24 half edges are twins.
+#[test]
+fn twins_run_back() {
+    let half_edges = HalfEdges::of(&closes([2, 2, 3], 50, &TWO_CUBES).triangles).unwrap();
+    let all: Vec<_> = half_edges.all().collect();
+    assert_eq!((all.len(), half_edges.lone().count()), (24, 8));
+    for (number, &((from, to), twin)) in all.iter().enumerate() {
+        if let Some(twin) = twin {
+            assert_eq!(all[twin], ((to, from), Some(number)));
+        }
+    }
+}
+
+/// A slit is found: one triangle taken away, one turned round, and case 246 as case 9 reversed.
 #[test]
 fn a_slit_is_found() {
     let mut samples = vec![0; 27];
     samples[13] = 100;
-    for at in 0..8 {
-        let mut mesh = closes([3, 3, 3], 50, &samples);
-        mesh.triangles.remove(at);
-        assert_eq!(slits(&mesh).len(), 3);
+    let whole = closes([3, 3, 3], 50, &samples);
+    for at in (0..24).step_by(3) {
+        let mut surface = whole.clone();
+        surface.triangles.drain(at..at + 3);
+        assert_eq!(slits([3, 3, 3], &surface).unwrap().len(), 3);
 
-        let mut mesh = closes([3, 3, 3], 50, &samples);
-        mesh.triangles[at].swap(0, 1);
-        assert_eq!(slits(&mesh).len(), 3);
+        let mut surface = whole.clone();
+        surface.triangles.swap(at, at + 1);
+        assert!(slits([3, 3, 3], &surface).is_err());
     }
 
-    let samples = [100, 100, 100, 100, 0, 100, 100, 0, 100, 100, 100, 100];
-    let mut mesh = closes([2, 2, 3], 50, &samples);
-    let point = |edge: u32| mesh.edges.iter().position(|&e| e == edge).unwrap() as u32;
+    let mut surface = closes([2, 2, 3], 50, &TWO_CUBES);
+    let point = |edge: u32| surface.edges.iter().position(|&e| e == edge).unwrap() as u32;
     // cube edges 0, 8, 4 and 1, 11, 5 of the upper cube by their grid edges
-    let wrong = [
-        [point(12), point(14), point(13)],
-        [point(18), point(23), point(16)],
-    ];
-    let upper = mesh.triangles.len() - 4;
-    mesh.triangles.truncate(upper);
-    mesh.triangles.extend(wrong);
-    assert!(slits(&mesh).contains(&(2, 5, 1, 0)));
+    let wrong = [12, 14, 13, 18, 23, 16].map(point);
+    let upper = surface.triangles.len() - 3 * 4;
+    surface.triangles.truncate(upper);
+    surface.triangles.extend(wrong);
+    assert!(slits([2, 2, 3], &surface).unwrap().contains(&(2, 5)));
 }

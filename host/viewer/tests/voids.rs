@@ -2,9 +2,12 @@
 
 #[path = "tools/castings.rs"]
 mod castings;
+#[path = "tools/half_edges.rs"]
+mod half_edges;
 mod tools;
 
 use castings::{ellipsoid, lattice, SIDE};
+use half_edges::HalfEdges;
 use tools::{extents, Seed};
 use viewer::{Shell, Surface};
 
@@ -76,19 +79,6 @@ fn within(smoothed: &Shell, raw: &Shell) -> bool {
         .all(|(inner, outer)| outer[0] <= inner[0] && inner[1] <= outer[1])
 }
 
-/// How often sides run from one point to another, less how often back, for each pair that sides join.
-fn surplus(triangles: &[u32]) -> std::collections::HashMap<(u32, u32), i64> {
-    let mut runs = std::collections::HashMap::new();
-    for corners in triangles.chunks_exact(3) {
-        for i in 0..3 {
-            let (from, to) = (corners[i], corners[(i + 1) % 3]);
-            *runs.entry((from.min(to), from.max(to))).or_insert(0) +=
-                if from < to { 1 } else { -1 };
-        }
-    }
-    runs
-}
-
 #[test]
 fn every_void_is_listed() {
     let mut seed = Seed::new(51);
@@ -109,9 +99,8 @@ fn every_void_is_listed() {
                 .records
                 .iter()
                 .all(|s| s.touches == 0 && s.volume < 0));
-            assert!(surplus(&surface.triangles)
-                .values()
-                .all(|&count| count == 0));
+            let half_edges = HalfEdges::of(&surface.triangles).unwrap();
+            assert_eq!(half_edges.lone().next(), None);
             shells.records
         });
         for ((raw, smoothed), part) in lists[0].iter().zip(&lists[1]).zip(&parts) {
