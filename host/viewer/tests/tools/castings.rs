@@ -1,4 +1,5 @@
 //! Where the voids of a casting are, for castings with a known number of them.
+#![allow(dead_code)]
 
 /// Samples a side of a casting.
 pub const SIDE: usize = 64;
