@@ -25,6 +25,6 @@ trianglesIn inside ts = keepOf (λ t. inside (t .one)) ts
 abbrev pub Closed : List Triangle → Type 0
 Closed ts = (p q : ℕ) → Even ts p q
 
--- and joined once: between any two points at all joined, exactly one triangle runs each way
+-- triangles that by themselves are joined once: between any two points that they join, exactly one runs each way
 abbrev pub Paired : List Triangle → Type 0
 Paired ts = (p q : ℕ) → JoinedOnce ts p q

@@ -1,4 +1,4 @@
-// The table of the 256 cases. Each is held to document 01's face rule by the proof of the function that hands it out.
+// The table of the 256 cases. Each is held to document 01's face rule, and to document 02's start of a fan, by the proof of the function that hands it out.
 use crate::CASES;
 use crate::TABLE;
 
