@@ -1,5 +1,5 @@
 //! Demand 3 counted by brute force on extracted meshes, raw and smoothed: each has half edges, and between two points that lie on no common outer face each
-//! half edge has its twin.
+//! half edge has its twin. Beyond demand 3, those between two points of one outer face have none, and the triangles of a point follow one another round it.
 
 #[path = "tools/half_edges.rs"]
 mod half_edges;
@@ -37,7 +37,7 @@ struct Side {
     twin: bool,
 }
 
-fn sides_of(sides: [u32; 3], surface: &Surface) -> Result<Vec<Side>, Twice> {
+fn sides_of(sides: [u32; 3], surface: &Surface, half_edges: &HalfEdges) -> Vec<Side> {
     let faces: Vec<u8> = surface
         .edges
         .iter()
@@ -48,18 +48,18 @@ fn sides_of(sides: [u32; 3], surface: &Surface) -> Result<Vec<Side>, Twice> {
         outer: faces[points.0 as usize] & faces[points.1 as usize] != 0,
         twin: twin.is_some(),
     };
-    let half_edges = HalfEdges::of(&surface.triangles)?;
-    Ok(half_edges.all().map(side).collect())
+    half_edges.all().map(side).collect()
 }
 
 /// The half edges off the outer faces that have no twin.
 fn slits(sides: [u32; 3], surface: &Surface) -> Result<Vec<(u32, u32)>, Twice> {
-    let all = sides_of(sides, surface)?;
+    let all = sides_of(sides, surface, &HalfEdges::of(&surface.triangles)?);
     let slit = all.iter().filter(|side| !side.outer && !side.twin);
     Ok(slit.map(|side| side.points).collect())
 }
 
-/// The surface of a grid, raw and smoothed, closes: off the outer faces every half edge has its twin. On them none has one.
+/// The surface of a grid, raw and smoothed, closes: off the outer faces every half edge has its twin. On them none has one. Those that leave a point follow one
+/// another.
 fn closes(sides: [u32; 3], grey: u16, samples: &[u16]) -> Surface {
     let at = format!("sides {sides:?}, grey value {grey}");
     let raw = Surface::extract(sides, grey, samples).expect(&at);
@@ -71,9 +71,12 @@ fn closes(sides: [u32; 3], grey: u16, samples: &[u16]) -> Surface {
         assert!(t.iter().all(|&point| (point as usize) < raw.edges.len()));
     }
     for surface in [&raw, &raw.smooth(2, 100).expect(&at)] {
-        for side in sides_of(sides, surface).expect(&at) {
+        let half_edges = HalfEdges::of(&surface.triangles).expect(&at);
+        for side in sides_of(sides, surface, &half_edges) {
             assert_eq!(side.twin, !side.outer, "{side:?}, {at}");
         }
+        let turns = half_edges.turns(surface.edges.len());
+        assert!(turns.iter().all(|&turns| turns == 1), "{at}");
     }
     raw
 }
@@ -236,7 +239,8 @@ fn sides_on_outer_faces_have_no_twin() {
         outer: true,
         twin: false,
     });
-    assert_eq!(sides_of([2, 2, 2], &surface).unwrap(), lone);
+    let half_edges = HalfEdges::of(&surface.triangles).unwrap();
+    assert_eq!(sides_of([2, 2, 2], &surface, &half_edges), lone);
 }
 
 /// Two cubes, one on the other: the upper one is case 246, the lower one 111.
@@ -262,6 +266,18 @@ fn twins_run_back() {
             assert_eq!(all[twin], ((to, from), Some(number)));
         }
     }
+}
+
+/// Two turns about a point are found: point 0 is the only one of two triangles, then of two whole tetrahedra.
+#[test]
+fn two_turns_are_found() {
+    let open = HalfEdges::of(&[0, 1, 2, 0, 3, 4]).unwrap();
+    assert_eq!(open.turns(5), [2, 1, 1, 1, 1]);
+    let tetrahedron = |[a, b, c]: [u32; 3]| [[0, a, b], [0, b, c], [0, c, a], [a, c, b]];
+    let two = [tetrahedron([1, 2, 3]), tetrahedron([4, 5, 6])];
+    let closed = HalfEdges::of(two.as_flattened().as_flattened()).unwrap();
+    assert_eq!(closed.turns(7), [2, 1, 1, 1, 1, 1, 1]);
+    assert_eq!(closed.lone().next(), None);
 }
 
 /// A slit is found: one triangle taken away, one turned round, and case 246 as case 9 reversed.

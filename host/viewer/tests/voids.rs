@@ -101,6 +101,8 @@ fn every_void_is_listed() {
                 .all(|s| s.touches == 0 && s.volume < 0));
             let half_edges = HalfEdges::of(&surface.triangles).unwrap();
             assert_eq!(half_edges.lone().next(), None);
+            let turns = half_edges.turns(surface.edges.len());
+            assert!(turns.iter().all(|&turns| turns == 1));
             shells.records
         });
         for ((raw, smoothed), part) in lists[0].iter().zip(&lists[1]).zip(&parts) {

@@ -37,6 +37,30 @@ impl HalfEdges {
         self.sides.iter().copied().zip(self.twins.iter().copied())
     }
 
+    /// The next half edge round the point that a half edge leaves: the twin of the one that comes to that point in the same triangle.
+    fn next_round(&self, half_edge: usize) -> Option<usize> {
+        self.twins[half_edge - half_edge % 3 + (half_edge + 2) % 3]
+    }
+
+    /// How many turns about each of so many points the half edges make that leave it: 1 where all follow one another.
+    pub fn turns(&self, points: usize) -> Vec<usize> {
+        let mut turns = vec![0; points];
+        let mut met = vec![false; self.sides.len()];
+        // a turn that does not close begins with the half edge that has no twin
+        let lone = (0..self.sides.len()).filter(|&half_edge| self.twins[half_edge].is_none());
+        for first in lone.chain(0..self.sides.len()) {
+            if !met[first] {
+                turns[self.sides[first].0 as usize] += 1;
+            }
+            let mut next = Some(first);
+            while let Some(half_edge) = next.filter(|&half_edge| !met[half_edge]) {
+                met[half_edge] = true;
+                next = self.next_round(half_edge);
+            }
+        }
+        turns
+    }
+
     /// The points of each half edge without a twin.
     pub fn lone(&self) -> impl Iterator<Item = (u32, u32)> + '_ {
         self.all()
