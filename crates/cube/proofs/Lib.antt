@@ -1,6 +1,6 @@
 -- What later floors cite about the definitions, and where a case stands in the table.
-pub mod Corners
 pub mod Way
+pub mod Corners
 pub mod Turned
 pub mod Cases
 pub mod Start
