@@ -1,12 +1,11 @@
 -- What whole cubes owe so that no two triangles run the same way, and show: by the table's tests over all cases, and by tests over the edges of a cube and its sides.
 use mathlib.Core.Path.{_≡_, refl, ap, ap₂, sym, _∙_}
-use mathlib.Core.List.{List, [], _∷_, map}
+use mathlib.Core.List.{[], _∷_, map}
 use mathlib.Core.Bool.{Bool, true, not, _&&_, _||_, and-comm}
 use mathlib.Core.Logic.{_⊎_, inl, inr}
 use Prim.Native.Nat.{ℕ, zero, suc, _+_, _*_, _^_, _<_, _≤_}
 use native.Mathlib.Omega.{arith}
 use lib.Dec.{eqb}
-use lib.ListN.{getD}
 use borrow.Author.Tests.{eqb-true, eq-eqb}
 use Rattle.laws.specs.Range.{one-if, allTo}
 use Rattle.laws.specs.Sum.{sumOf}
@@ -19,6 +18,7 @@ use Rattle.cube.specs.Face.{goRound, faceSegments, segmentsOf, back}
 use Rattle.cube.specs.Answer.{cubeFaces, triangles}
 use Rattle.cube.proofs.Cases.{edge-between}
 use Rattle.cube.proofs.Corners.{case-small}
+use Rattle.cube.proofs.Rings.{ring}
 use Rattle.cube.proofs.Turned.{face-turned}
 use Rattle.cube.proofs.Start.{side-once, inFace, SideIn, side-in-face, OneWay, face-one-way}
 use Rattle.grid.specs.Grid.{along}
@@ -72,7 +72,7 @@ one-side e f ce cf apart axis at axis′ at′ l l′ a b a′ b′ =
 
 -- the face at the low or the high side across an axis
 abbrev faceAt : ℕ → ℕ → Ring
-faceAt axis at = getD cubeFaces (2 * axis + at) []
+faceAt axis at = ring (2 * axis + at)
 
 -- an edge at a side lies in its face
 inItsFace : ℕ → ℕ → ℕ → Bool

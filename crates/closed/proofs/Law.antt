@@ -2,18 +2,18 @@
 -- do, and the segments of an outer face have both ends on that face, the triangles of all cells together run one way as often as the other, off
 -- the outer faces. Nothing here knows what a cell is: a cube, or a cube cut into tetrahedra.
 use mathlib.Core.Path.{_≡_, refl, sym, _∙_}
-use mathlib.Core.List.{List, [], _∷_, _++_}
+use mathlib.Core.List.{List, [], _++_}
 use mathlib.Core.Bool.{Bool, true, false, _&&_}
 use Prim.Native.Nat.{ℕ, _+_, _<_, _≤_}
 use native.Mathlib.Omega.{arith}
 use lib.Dec.{eqb}
 use Rattle.laws.specs.Range.{one-if, joinBox}
 use Rattle.laws.specs.Sum.{sumOf, All}
-use Rattle.laws.specs.Mesh.{Arrow, Triangle, sides, total, times}
+use Rattle.laws.specs.Mesh.{Arrow, Ends, Triangle, sides, total, times}
+use Rattle.laws.proofs.Sums.{sum-nothing}
 use Rattle.laws.proofs.Sides.{sides-append, total-append}
 use Rattle.laws.proofs.Box.{measure-box, box-even}
 use Rattle.laws.proofs.Single.{OneCell, box-most-one}
-use Rattle.cube.proofs.Way.{Ends}
 
 -- a weight of arrows there and back
 abbrev turn : Bool → (ℕ → ℕ → ℕ) → ℕ → ℕ → ℕ
@@ -22,10 +22,8 @@ turn false w i j = w j i
 
 -- arrows with both ends in a place where nothing weighs
 pub ends-nothing : (P : ℕ → Type 0) (w : ℕ → ℕ → ℕ) → ((i j : ℕ) → P i → P j → w i j ≡ 0) → (ss : List Arrow) → All (Ends P) ss → total w ss ≡ 0
-unfolding total sumOf
-ends-nothing P w none [] a = refl
-ends-nothing P w none (s ∷ ss) a =
-    omega (arith, none (s .from) (s .to) (a .0 .0) (a .0 .1), ends-nothing P w none ss (a .1))
+unfolding total
+ends-nothing P w none ss a = sum-nothing (Ends P) (λ s. w (s .from) (s .to)) (λ s e. none (s .from) (s .to) (e .0) (e .1)) ss a
 
 -- what the sides of triangles weigh adds up over the cells of a box
 module _ (w : ℕ → ℕ → ℕ) where

@@ -3,15 +3,14 @@
 use mathlib.Core.Path.{_≡_, ap, sym, _∙_}
 use mathlib.Core.List.{List}
 use mathlib.Core.Bool.{Bool, _&&_}
-use Prim.Native.Nat.{ℕ, _+_, _-_, _<_, _≤_}
+use Prim.Native.Nat.{ℕ, _-_, _≤_}
 use native.Mathlib.Omega.{arith}
 use lib.Dec.{eqb}
 use lib.ListN.{getD}
 use Rattle.laws.specs.Range.{one-if}
-use Rattle.laws.specs.Mesh.{Triangle, sides, times}
+use Rattle.laws.specs.Mesh.{Ends, Triangle, sides, times}
 use Rattle.laws.proofs.Sums.{all-weaken}
 use Rattle.laws.proofs.Sides.{total-rename, times-le}
-use Rattle.cube.proofs.Way.{Ends}
 use Rattle.grid.specs.Limits.{leastSide}
 use Rattle.grid.specs.Grid.{Size}
 use Rattle.grid.specs.Point.{pointEdges, number}

@@ -1,8 +1,8 @@
 -- In one cube of a grid no side comes twice, and two cubes whose triangles both run from grid edge i to grid edge j are one cube: were they neighbours, both sides would be
 -- segments of the common face, which has none that runs back where another runs.
-use mathlib.Core.Path.{_≡_, refl, ap, sym, _∙_, subst}
+use mathlib.Core.Path.{_≡_, ap, sym, _∙_, subst}
 use mathlib.Core.List.{List, map}
-use mathlib.Core.Bool.{Bool, true, _&&_}
+use mathlib.Core.Bool.{Bool, _&&_}
 use Prim.Native.Nat.{ℕ, zero, suc, _+_, _-_, _^_, _<_, _≤_}
 use native.Mathlib.Decide.{decLt}
 use native.Mathlib.Omega.{arith}
@@ -10,21 +10,20 @@ use lib.Dec.{eqb}
 use borrow.Author.Tests.{eqb-true}
 use Rattle.laws.specs.Range.{one-if}
 use Rattle.laws.specs.Sum.{All}
-use Rattle.laws.specs.Mesh.{Arrow, arrow, sides, total, times}
+use Rattle.laws.specs.Mesh.{Arrow, arrow, Ends, sides, total, times}
 use Rattle.laws.proofs.Tests.{both, is-one}
 use Rattle.laws.proofs.Sums.{all-any, all-both, all-map, all-weaken, some-of}
 use Rattle.laws.proofs.Lists.{all-flat}
 use Rattle.laws.proofs.Sides.{total-rename, times-le, all-counted}
 use Rattle.cube.specs.Cube.{cases}
 use Rattle.cube.specs.Face.{Step, step, goRound, wayRound, faceSegments, segmentsOf}
-use Rattle.cube.proofs.Way.{Ends, CrossedHave, ends-crossed, round-mapped}
+use Rattle.cube.proofs.Way.{CrossedHave, ends-crossed, round-mapped}
 use Rattle.cube.proofs.Corners.{case-small}
 use Rattle.grid.specs.Grid.{Size, along}
 use Rattle.grid.specs.Mode.{Mode, CubeEdge, CutSide}
 use Rattle.grid.specs.Mesh.{cornerSite, caseAt, gridEdge, cubeTriangles}
-use Rattle.grid.proofs.Sites.{choose}
 use Rattle.grid.proofs.Edges.{grid-edge-one-to-one}
-use Rattle.closed.specs.Pattern.{Ring, further, Pattern, LowEdge, Owed, AtSide, lowFaces, OwedOnce}
+use Rattle.closed.specs.Pattern.{Ring, further, Pattern, LowEdge, Owed, lowFaces, OwedOnce}
 use Rattle.closed.proofs.Cells.{rings-renamed, shared-x, shared-y, shared-z, corner, across, same-sides}
 use Rattle.closed.proofs.Shared.{Lie, NextTo, Cube, Shared, same-cube, next-cube, cube-before, shared-face}
 

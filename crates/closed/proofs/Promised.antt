@@ -10,10 +10,9 @@ use lib.ListN.{length, getD, length-map}
 use borrow.Author.Tests.{ne-eqb}
 use Rattle.laws.specs.Range.{one-if}
 use Rattle.laws.specs.Sum.{All}
-use Rattle.laws.specs.Mesh.{sides}
+use Rattle.laws.specs.Mesh.{Ends, sides}
 use Rattle.laws.proofs.Lists.{map-at}
 use Rattle.laws.proofs.Sums.{all-weaken}
-use Rattle.cube.proofs.Way.{Ends}
 use Rattle.grid.specs.Grid.{isAboveGrey, mark}
 use Rattle.grid.specs.Mode.{Mode}
 use Rattle.grid.specs.Work.{size}

@@ -5,12 +5,12 @@ use mathlib.Core.Bool.{Bool, true, false, cond, xor}
 use Prim.Native.Nat.{ℕ, _+_, _-_, _<_, _≤_}
 use native.Mathlib.Omega.{arith}
 use Rattle.laws.specs.Sum.{All}
-use Rattle.laws.specs.Mesh.{Arrow, arrow}
+use Rattle.laws.specs.Mesh.{Arrow, arrow, Ends}
 use Rattle.laws.proofs.Sums.{all-map, all-weaken}
 use Rattle.laws.proofs.Lists.{all-flat}
 use Rattle.cube.specs.Cube.{cornerX, cornerY, cornerZ}
 use Rattle.cube.specs.Face.{Step, step, goRound, wayRound, faceSegments, segmentsOf}
-use Rattle.cube.proofs.Way.{Ends, CrossedHave, ends-crossed, round-mapped}
+use Rattle.cube.proofs.Way.{CrossedHave, ends-crossed, round-mapped}
 use Rattle.grid.specs.Limits.{leastSide}
 use Rattle.grid.specs.Grid.{Size, side, along}
 use Rattle.grid.specs.Mode.{Mode, high}

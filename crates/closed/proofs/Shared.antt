@@ -1,6 +1,6 @@
 -- Two cubes of a grid that both have two different grid edges are the same cube, or stand next to each other along one axis, and both edges lie in their common side.
 use mathlib.Core.Path.{_≡_, ap, sym, _∙_}
-use Prim.Native.Nat.{ℕ, zero, suc, _+_, _<_, _≤_}
+use Prim.Native.Nat.{ℕ, _+_, _<_, _≤_}
 use native.Mathlib.Decide.{decLt}
 use native.Mathlib.Omega.{arith}
 use Rattle.grid.specs.Grid.{Size, along}

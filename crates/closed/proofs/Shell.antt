@@ -7,8 +7,10 @@ use native.Mathlib.Omega.{arith}
 use lib.Dec.{eqb}
 use borrow.Author.Tests.{ne-eqb}
 use Rattle.laws.specs.Range.{one-if}
-use Rattle.laws.specs.Sum.{sumOf, keepOf}
+use Rattle.laws.specs.Sum.{sumOf, All}
 use Rattle.laws.specs.Mesh.{Triangle, sides, total}
+use Rattle.laws.proofs.Sums.{all-any, sum-kept, sum-alike, sum-nothing, sum-le}
+use Rattle.laws.proofs.Sides.{total-sides}
 use Rattle.closed.specs.Runs.{runs, Even}
 use Rattle.closed.specs.Shell.{SidesStay, trianglesIn, Closed, Paired}
 use Rattle.closed.proofs.Once.{joined-once}
@@ -29,38 +31,51 @@ module _ (inside : ℕ → Bool) (w : ℕ → ℕ → ℕ) where
       let third : inside (t .three) ≡ b = sym three ∙ second in
       omega (arith, none (t .one) (t .two) one second, none (t .two) (t .three) second third, none (t .three) (t .one) third one)
 
+  -- no side of a triangle leads out
+  abbrev Together : Triangle → Type 0
+  Together t = (inside (t .one) ≡ inside (t .two)) × (inside (t .two) ≡ inside (t .three))
+
+  together : (ts : List Triangle) → SidesStay inside ts → All Together ts
+  unfolding sides
+  together [] stay = tt
+  together (t ∷ ts) stay = ((stay .0, stay .1 .0), together ts (stay .1 .1 .1))
+
+  -- what the set's triangles weigh, by a test of each triangle
+  abbrev threeIf : Triangle → ℕ
+  threeIf t = cond (inside (t .one)) (threeSides t) 0
+
+  by-test : (ts : List Triangle) → total w (sides (trianglesIn inside ts)) ≡ sumOf threeIf ts
+  by-test ts = total-sides w (trianglesIn inside ts) ∙ sum-kept (λ t. inside (t .one)) threeSides ts
+
   -- outside nothing weighs: the set's triangles weigh what all do
   all-inside : Nothing false → (ts : List Triangle) → SidesStay inside ts → total w (sides (trianglesIn inside ts)) ≡ total w (sides ts)
-  unfolding total sides sumOf keepOf
-  all-inside none [] stay = refl
-  all-inside none (t ∷ ts) stay = go (inside (t .one)) refl (all-inside none ts (stay .1 .1 .1))
+  all-inside none ts stay = by-test ts ∙ sum-alike Together threeIf threeSides (λ t s. go t s (inside (t .one)) refl) ts (together ts stay) ∙ sym (total-sides w ts)
     where
-      go : (b : Bool) → inside (t .one) ≡ b → total w (sides (trianglesIn inside ts)) ≡ total w (sides ts)
-          → total w (sides (cond b (t ∷ trianglesIn inside ts) (trianglesIn inside ts))) ≡ total w (sides (t ∷ ts))
-      go true e later = unfold total sides sumOf in omega (arith, later)
-      go false e later = unfold total sides sumOf in omega (arith, later, three-nothing t false none e (stay .0) (stay .1 .0))
+      go : (t : Triangle) → Together t → (b : Bool) → inside (t .one) ≡ b → cond b (threeSides t) 0 ≡ threeSides t
+      go t s true e = refl
+      go t s false e = sym (three-nothing t false none e (s .0) (s .1))
 
   -- inside nothing weighs: the set's triangles weigh nothing
   none-inside : Nothing true → (ts : List Triangle) → SidesStay inside ts → total w (sides (trianglesIn inside ts)) ≡ 0
-  unfolding total sides sumOf keepOf
-  none-inside none [] stay = refl
-  none-inside none (t ∷ ts) stay = go (inside (t .one)) refl (none-inside none ts (stay .1 .1 .1))
+  none-inside none ts stay = by-test ts ∙ sum-nothing Together threeIf (λ t s. go t s (inside (t .one)) refl) ts (together ts stay)
     where
-      go : (b : Bool) → inside (t .one) ≡ b → total w (sides (trianglesIn inside ts)) ≡ 0
-          → total w (sides (cond b (t ∷ trianglesIn inside ts) (trianglesIn inside ts))) ≡ 0
-      go true e later = unfold total sides sumOf in omega (arith, later, three-nothing t true none e (stay .0) (stay .1 .0))
-      go false e later = later
+      go : (t : Triangle) → Together t → (b : Bool) → inside (t .one) ≡ b → cond b (threeSides t) 0 ≡ 0
+      go t s true e = three-nothing t true none e (s .0) (s .1)
+      go t s false e = refl
 
   -- fewer triangles weigh no more
-  pub fewer-weigh : (ts : List Triangle) → total w (sides (trianglesIn inside ts)) ≤ total w (sides ts)
-  unfolding total sides sumOf keepOf
-  fewer-weigh [] = omega arith
-  fewer-weigh (t ∷ ts) = go (inside (t .one)) (fewer-weigh ts)
+  fewer-weigh : (ts : List Triangle) → total w (sides (trianglesIn inside ts)) ≤ total w (sides ts)
+  fewer-weigh ts =
+      omega (
+        arith,
+        by-test ts,
+        total-sides w ts,
+        sum-le (λ t. Unit {0}) threeIf threeSides (λ t u. go (inside (t .one)) (threeSides t)) ts (all-any (λ t. Unit {0}) (λ t. tt) ts),
+      )
     where
-      go : (b : Bool) → total w (sides (trianglesIn inside ts)) ≤ total w (sides ts)
-          → total w (sides (cond b (t ∷ trianglesIn inside ts) (trianglesIn inside ts))) ≤ total w (sides (t ∷ ts))
-      go true later = unfold total sides sumOf in omega (arith, later)
-      go false later = unfold total sides sumOf in omega (arith, later)
+      go : (b : Bool) (v : ℕ) → cond b v 0 ≤ v
+      go true v = omega arith
+      go false v = omega arith
 
 module _ (inside : ℕ → Bool) (ts : List Triangle) (stay : SidesStay inside ts) where
   -- an end on the other side of the set's rim than p is not p

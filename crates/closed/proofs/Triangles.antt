@@ -9,7 +9,7 @@ use borrow.Author.Tests.{eqb-true}
 use Rattle.laws.specs.Sum.{sumOf, All}
 use Rattle.laws.specs.Mesh.{Triangle, sides, total}
 use Rattle.laws.proofs.Tests.{both, one-of-three}
-use Rattle.closed.specs.Runs.{runs, runsFrom, trianglesFrom}
+use Rattle.closed.specs.Runs.{runs, trianglesFrom}
 
 -- two sides that start at different points don't both start at p
 not-both : (p q a b c d : ℕ) → (a ≡ b → ⊥) → (eqb a p && eqb c q) ≡ true → (eqb b p && eqb d q) ≡ true → ⊥

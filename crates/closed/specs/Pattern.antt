@@ -116,7 +116,7 @@ pub record OwedOnce (m : Mode) : Type 0 where
   pub high-segment : (axis : ℕ) → axis < 3 → (above : ℕ → Bool) (e f : ℕ) → CubeEdge m e → CubeEdge m f → AtSide m axis 1 e → AtSide m axis 1 f
       → times (sides (m .triangles (caseOf above))) e f
       ≤ times (segmentsOf above (owed .pattern .edge) (map (further (2 ^ axis)) (lowFaces (owed .pattern) axis))) f e
-  -- of two segments there, none runs back where the other runs
+  -- at a low side no segment comes twice, and none runs back where another runs
   pub one-way : (axis : ℕ) → axis < 3 → (above : ℕ → Bool) (e f : ℕ)
       → let cuts = segmentsOf above (owed .pattern .edge) (lowFaces (owed .pattern) axis) in
       times cuts e f + times cuts f e ≤ 1

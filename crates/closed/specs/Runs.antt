@@ -15,7 +15,7 @@ use Rattle.grid.specs.Grid.{Size, Kind, someFace, onFace}
 unfoldable pub runs : List Triangle → ℕ → ℕ → ℕ
 runs ts p q = times (sides ts) p q
 
--- how many triangles run from p to q: those that have such a side
+-- a triangle runs from p to q if it has such a side, and how many do
 abbrev pub runsFrom : Triangle → ℕ → ℕ → Bool
 runsFrom t p q = eqb (t .one) p && eqb (t .two) q || (eqb (t .two) p && eqb (t .three) q || eqb (t .three) p && eqb (t .one) q)
 

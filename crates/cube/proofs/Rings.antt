@@ -10,7 +10,7 @@ use Rattle.laws.proofs.Values.{list-at}
 use Rattle.cube.specs.Answer.{cubeFaces}
 use Rattle.cube.specs.Ring.{wayTo, crossWay, squaredWay, sidesOf, turnsOf, cornerAlong, outward, GoesRound}
 
-abbrev ring : ℕ → List ℕ
+abbrev pub ring : ℕ → List ℕ
 ring f = getD cubeFaces f []
 
 -- what two functions make of the six faces, computed, at one of them

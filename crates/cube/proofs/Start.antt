@@ -2,7 +2,7 @@
 -- is one test that is computed over all 256 cases, and the law at a case.
 use mathlib.Core.Path.{_≡_, refl, ap, sym, _∙_}
 use mathlib.Core.List.{List, [], _∷_, _++_, map, flatMap}
-use mathlib.Core.Bool.{Bool, true, false, _&&_, and-comm, false≢true}
+use mathlib.Core.Bool.{Bool, true, false, cond, _&&_, and-comm, false≢true}
 use Prim.Native.Nat.{ℕ, _+_, _<_, _≤_}
 use native.Mathlib.Omega.{arith}
 use lib.Dec.{eqb, ltb}
@@ -14,7 +14,7 @@ use Rattle.laws.specs.Order.{isIn, without, rearranged, single}
 use Rattle.laws.specs.Bits.{bit}
 use Rattle.laws.specs.Mesh.{Arrow, flip, sameArrow, sides, total, times}
 use Rattle.laws.proofs.Tests.{all-at, all-of}
-use Rattle.laws.proofs.Sums.{all-weaken, all-both, sum-kept}
+use Rattle.laws.proofs.Sums.{all-weaken, all-both, sum-same, sum-kept}
 use Rattle.laws.proofs.Sides.{total-append, total-flip, total-rearranged, single-times}
 use Rattle.cube.specs.Cube.{cases, caseOf, isAbove, edgeBetween, cubeEdges}
 use Rattle.cube.specs.Face.{goRound, cuts, wayRound, faceSegments, segmentsOf}
@@ -72,7 +72,8 @@ kept : (k : ℕ) (ring : List ℕ) → faceKept k ring ≡ true → (e f : ℕ) 
 unfolding faceKept total
 kept k ring h e f he hf =
     let w : ℕ → ℕ → ℕ = λ i j. one-if (eqb i e && eqb j f) in
-    sym (sum-kept (joins ring) (λ s. w (s .from) (s .to)) elsewhere (sides (triangles k)))
+    let v : Arrow → ℕ = λ s. w (s .from) (s .to) in
+    sym (sum-kept (joins ring) v (sides (triangles k)) ∙ sum-same (λ s. cond (joins ring s) (v s) 0) v (λ s. alike s (joins ring s) refl) (sides (triangles k)))
     ∙ total-rearranged w (keepOf (joins ring) (sides (triangles k))) (faceSegments (isAbove k) edgeBetween ring) h
   where
     elsewhere : (s : Arrow) → joins ring s ≡ false → one-if (eqb (s .from) e && eqb (s .to) f) ≡ 0
@@ -82,6 +83,10 @@ kept k ring h e f he hf =
         go true p true q = absurd (false≢true (sym out ∙ rw (eqb-true (s .from) e p, eqb-true (s .to) f q, he, hf)))
         go true p false q = refl
         go false p c q = refl
+
+    alike : (s : Arrow) (b : Bool) → joins ring s ≡ b → cond b (one-if (eqb (s .from) e && eqb (s .to) f)) 0 ≡ one-if (eqb (s .from) e && eqb (s .to) f)
+    alike s true h = refl
+    alike s false h = sym (elsewhere s h)
 
 -- no segment of a face comes twice, nor runs back where another runs
 faceOneWay : ℕ → List ℕ → Bool

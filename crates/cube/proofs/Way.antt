@@ -4,7 +4,7 @@ use mathlib.Core.List.{List, [], _∷_, _++_, map, map-append, List·Memᴰ}
 use mathlib.Core.Bool.{Bool, true, false, cond, not, _&&_, xor, false≢true}
 use Prim.Native.Nat.{ℕ}
 use Rattle.laws.specs.Sum.{All}
-use Rattle.laws.specs.Mesh.{Arrow, arrow}
+use Rattle.laws.specs.Mesh.{Arrow, arrow, Ends}
 use Rattle.laws.proofs.Sums.{all-append, all-weaken, all-mapped}
 use Rattle.cube.specs.Face.{Step, entersRun, leavesRun, leftBy, cutRuns, cuts, roundFrom, goRound}
 
@@ -76,10 +76,6 @@ module _ (r : ℕ → ℕ) where
 -- a step whose two corners differ goes by a crossed edge
 abbrev pub crossedStep : Step → Bool
 crossedStep s = xor (s .leaving) (s .coming)
-
--- both ends of an arrow have the property
-abbrev pub Ends : (ℕ → Type 0) → Arrow → Type 0
-Ends P a = P (a .from) × P (a .to)
 
 -- what holds of each crossed edge of the face holds of both ends of each of its segments
 module _ (P : ℕ → Type 0) where

@@ -22,7 +22,7 @@ cubeFaces =
 unfoldable pub segments : ℕ → List Arrow
 segments k = segmentsOf (isAbove k) edgeBetween cubeFaces
 
--- the fan of a loop starts as the faces, each the list of its edges, let it
+-- the fan of a loop from its start, which the cube's faces decide, each as the list of its edges
 unfoldable pub fanOf : List ℕ → List Triangle
 unfolding fan fromStart
 fanOf loop = fan (fromStart (map (goRound edgeBetween) cubeFaces) cubeEdges loop)

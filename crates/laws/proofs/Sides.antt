@@ -10,7 +10,7 @@ use lib.ListN.{length}
 use Rattle.laws.specs.Range.{one-if, joinTo}
 use Rattle.laws.specs.Sum.{sumOf, All}
 use Rattle.laws.specs.Order.{rearranged, single}
-use Rattle.laws.specs.Mesh.{Arrow, arrow, sameArrow, flip, Triangle, rename, sides, total, times, cornersOf, flat}
+use Rattle.laws.specs.Mesh.{Arrow, arrow, Ends, sameArrow, flip, Triangle, rename, sides, total, times, cornersOf, flat}
 use Rattle.laws.proofs.Tests.{both, one-if-le}
 use Rattle.laws.proofs.Ranges.{length-flat}
 use Rattle.laws.proofs.Sums.{sum-append, sum-map, sum-le, all-weaken}
@@ -46,6 +46,12 @@ module _ (w : ℕ → ℕ → ℕ) where
   total-rename f [] = refl
   total-rename f (t ∷ ts) = omega (arith, total-rename f ts)
 
+  -- triangle by triangle
+  pub total-sides : (ts : List Triangle) → total w (sides ts) ≡ sumOf (λ t. w (t .one) (t .two) + w (t .two) (t .three) + w (t .three) (t .one)) ts
+  unfolding total sides sumOf
+  total-sides [] = refl
+  total-sides (t ∷ ts) = omega (arith, total-sides ts)
+
 -- each arrow of a list is counted there
 pub all-counted : (ss : List Arrow) → All (λ s. 0 < times ss (s .from) (s .to)) ss
 unfolding total sumOf
@@ -65,13 +71,13 @@ single-times ss h a b = single-most sameArrow (arrow a b) alike ss h
 
 -- renamed in two ways: where an end that is a or b by the first is c or d by the second, no more arrows run from a to b by the first than from c to d by the second
 pub times-le : (P : ℕ → Type 0) (f g : ℕ → ℕ) (a b c d : ℕ) → ((i : ℕ) → P i → f i ≡ a → g i ≡ c) → ((i : ℕ) → P i → f i ≡ b → g i ≡ d)
-    → (ss : List Arrow) → All (λ s. P (s .from) × P (s .to)) ss
+    → (ss : List Arrow) → All (Ends P) ss
     → total (λ i j. one-if (eqb (f i) a && eqb (f j) b)) ss ≤ total (λ i j. one-if (eqb (g i) c && eqb (g j) d)) ss
 unfolding total
 times-le P f g a b c d start end ss ends =
-    sum-le (λ s. P (s .from) × P (s .to)) (λ s. one-if (eqb (f (s .from)) a && eqb (f (s .to)) b)) (λ s. one-if (eqb (g (s .from)) c && eqb (g (s .to)) d)) one ss ends
+    sum-le (Ends P) (λ s. one-if (eqb (f (s .from)) a && eqb (f (s .to)) b)) (λ s. one-if (eqb (g (s .from)) c && eqb (g (s .to)) d)) one ss ends
   where
-    one : (s : Arrow) → P (s .from) × P (s .to) → one-if (eqb (f (s .from)) a && eqb (f (s .to)) b) ≤ one-if (eqb (g (s .from)) c && eqb (g (s .to)) d)
+    one : (s : Arrow) → Ends P s → one-if (eqb (f (s .from)) a && eqb (f (s .to)) b) ≤ one-if (eqb (g (s .from)) c && eqb (g (s .to)) d)
     one s p =
         one-if-le (eqb (f (s .from)) a && eqb (f (s .to)) b) (eqb (g (s .from)) c && eqb (g (s .to)) d)
         (λ t.

@@ -1,8 +1,10 @@
 -- What comes at most once: in a list by a test, in a range and in a box of cells.
 use mathlib.Core.Path.{_≡_, refl, sym, _∙_}
 use mathlib.Core.List.{List, [], _∷_}
-use mathlib.Core.Bool.{Bool, true, false, not, _&&_, false≢true}
+use mathlib.Core.Bool.{Bool, true, false, not, false≢true}
+use mathlib.Core.Logic.{⊎-elim}
 use Prim.Native.Nat.{ℕ, zero, suc, _+_, _<_, _≤_}
+use native.Mathlib.Nat.{eq-zero-or-pos}
 use native.Mathlib.Decide.{decLt}
 use native.Mathlib.Omega.{arith}
 use borrow.Author.Tests.{not-true}
@@ -54,11 +56,11 @@ sum-most-one (suc n) f most one =
   where
     go : Dec (0 < f n) → sumTo n f ≤ 1 → sumTo n f + f n ≤ 1
     go (yes l) later =
-        omega (arith, most n (omega arith), sum-none n f (λ i small. is-nothing (f i) (λ k. let e = one i n (omega arith) (omega arith) k l in omega arith)))
-      where
-        is-nothing : (v : ℕ) → (0 < v → ⊥) → v ≡ 0
-        is-nothing zero none = refl
-        is-nothing (suc v) none = absurd (none (omega arith))
+        omega (
+          arith,
+          most n (omega arith),
+          sum-none n f (λ i small. ⊎-elim (λ e. e) (λ k. let e = one i n (omega arith) (omega arith) k l in omega arith) (eq-zero-or-pos (f i))),
+        )
     go (no l) later = omega (arith, later)
 
 -- in a box of cells each worth at most 1, of which any two that are not worth nothing are the same cell, all together are worth at most 1

@@ -19,11 +19,6 @@ unfolding sumOf
 sum-map v f [] = refl
 sum-map v f (x ∷ xs) = omega (arith, sum-map v f xs)
 
-pub sum-same : {A : Type 0} (u v : A → ℕ) → ((a : A) → u a ≡ v a) → (xs : List A) → sumOf u xs ≡ sumOf v xs
-unfolding sumOf
-sum-same u v h [] = refl
-sum-same u v h (x ∷ xs) = omega (arith, h x, sum-same u v h xs)
-
 pub sum-flat : {A B : Type 0} (v : B → ℕ) (f : A → List B) (xs : List A) → sumOf v (flatMap f xs) ≡ sumOf (λ a. sumOf v (f a)) xs
 unfolding sumOf flatMap
 sum-flat v f [] = refl
@@ -69,22 +64,35 @@ unfolding sumOf
 sum-bounded m g h [] = omega (arith, zero-mul m)
 sum-bounded m g h (x ∷ xs) = omega (arith, h x, sum-bounded m g h xs, suc-mul (length xs) m)
 
--- elements that are worth no more, one by one, are worth no more together
+-- elements that are worth the same, one by one, or nothing, or no more
+pub sum-alike : {A : Type 0} (P : A → Type 0) (u v : A → ℕ) → ((a : A) → P a → u a ≡ v a) → (xs : List A) → All P xs → sumOf u xs ≡ sumOf v xs
+unfolding sumOf
+sum-alike P u v h [] a = refl
+sum-alike P u v h (x ∷ xs) a = omega (arith, h x (a .0), sum-alike P u v h xs (a .1))
+
+pub sum-same : {A : Type 0} (u v : A → ℕ) → ((a : A) → u a ≡ v a) → (xs : List A) → sumOf u xs ≡ sumOf v xs
+sum-same u v h xs = sum-alike (λ a. Unit {0}) u v (λ a t. h a) xs (all-any (λ a. Unit {0}) (λ a. tt) xs)
+
+pub sum-nothing : {A : Type 0} (P : A → Type 0) (v : A → ℕ) → ((a : A) → P a → v a ≡ 0) → (xs : List A) → All P xs → sumOf v xs ≡ 0
+unfolding sumOf
+sum-nothing P v h [] a = refl
+sum-nothing P v h (x ∷ xs) a = omega (arith, h x (a .0), sum-nothing P v h xs (a .1))
+
 pub sum-le : {A : Type 0} (P : A → Type 0) (u v : A → ℕ) → ((a : A) → P a → u a ≤ v a) → (xs : List A) → All P xs → sumOf u xs ≤ sumOf v xs
 unfolding sumOf
 sum-le P u v h [] a = omega arith
 sum-le P u v h (x ∷ xs) a = omega (arith, h x (a .0), sum-le P u v h xs (a .1))
 
--- elements that fail a test may be left out where they are worth nothing
-module _ {A : Type 0} (p : A → Bool) (v : A → ℕ) where
-  pub sum-kept : ((a : A) → p a ≡ false → v a ≡ 0) → (xs : List A) → sumOf v (keepOf p xs) ≡ sumOf v xs
-  unfolding sumOf keepOf
-  sum-kept none [] = refl
-  sum-kept none (x ∷ xs) = go (p x) refl (sum-kept none xs)
-    where
-      go : (b : Bool) → p x ≡ b → sumOf v (keepOf p xs) ≡ sumOf v xs → sumOf v (cond b (x ∷ keepOf p xs) (keepOf p xs)) ≡ v x + sumOf v xs
-      go true e later = omega (arith, later)
-      go false e later = omega (arith, later, none x e)
+-- what the elements that pass a test are worth together
+pub sum-kept : {A : Type 0} (p : A → Bool) (v : A → ℕ) (xs : List A) → sumOf v (keepOf p xs) ≡ sumOf (λ a. cond (p a) (v a) 0) xs
+unfolding sumOf keepOf
+sum-kept p v [] = refl
+sum-kept p v (x ∷ xs) = go (p x) (sum-kept p v xs)
+  where
+    go : (b : Bool) → sumOf v (keepOf p xs) ≡ sumOf (λ a. cond (p a) (v a) 0) xs
+        → sumOf v (cond b (x ∷ keepOf p xs) (keepOf p xs)) ≡ cond b (v x) 0 + sumOf (λ a. cond (p a) (v a) 0) xs
+    go true later = omega (arith, later)
+    go false later = omega (arith, later)
 
 -- where the elements are worth something together, one of them is
 pub some-of : {A R : Type 0} (P : A → Type 0) (v : A → ℕ) (xs : List A) → All P xs → 0 < sumOf v xs → ((a : A) → P a → 0 < v a → R) → R

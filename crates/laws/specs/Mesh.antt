@@ -14,6 +14,10 @@ pub record Arrow : Type 0 where
 abbrev pub arrow : ℕ → ℕ → Arrow
 arrow a b = record { from = a; to = b }
 
+-- both ends of an arrow have the property
+abbrev pub Ends : (ℕ → Type 0) → Arrow → Type 0
+Ends P a = P (a .from) × P (a .to)
+
 -- the arrow that runs back
 abbrev pub flip : Arrow → Arrow
 flip a = arrow (a .to) (a .from)

@@ -1,7 +1,7 @@
 //! The extractor: checks, counts and rooms.
 
 use crate::cube;
-use crate::grid::Grid;
+use crate::grid::{Grid, Point};
 use crate::mesh::{MOST_POINTS, MOST_TRIANGLES};
 
 /// What the extractor returns.
@@ -63,37 +63,6 @@ pub fn extract(
     triangles: &mut [u32],
     work: &mut [u32],
 ) -> Extracted {
-    extract_by(
-        cube::triangles,
-        nx,
-        ny,
-        nz,
-        grey,
-        samples,
-        points,
-        edges,
-        marks,
-        triangles,
-        work,
-    )
-}
-
-/// [`extract`] with a case's triangles as `of_case` answers them:
-/// [`cube::triangles`], or [`cube::triangles_of_document_01`] to compare with.
-#[allow(clippy::too_many_arguments)]
-pub fn extract_by(
-    of_case: fn(u8) -> Vec<[u8; 3]>,
-    nx: u32,
-    ny: u32,
-    nz: u32,
-    grey: u16,
-    samples: &[u16],
-    points: &mut [u32],
-    edges: &mut [u32],
-    marks: &mut [u8],
-    triangles: &mut [u32],
-    work: &mut [u32],
-) -> Extracted {
     let sides = [nx, ny, nz];
     let number = check(sides, samples.len(), work.len());
     if number != 0 {
@@ -112,7 +81,7 @@ pub fn extract_by(
     if point_list.len() > MOST_POINTS.min(point_room) {
         return refused(4);
     }
-    let triangle_list = grid.triangles(&point_list, of_case);
+    let triangle_list = grid.triangles(&point_list, cube::triangles);
     // "triangles exceed 500,000 or their room"
     let triangle_room = triangles.len() / 3;
     if triangle_list.len() > MOST_TRIANGLES.min(triangle_room) {
@@ -132,4 +101,21 @@ pub fn extract_by(
         points: point_list.len() as u32,
         triangles: triangle_list.len() as u32,
     }
+}
+
+/// The points and the triangles of a grid that is not refused, with document
+/// 01's fans, to compare with.
+pub fn mesh_of_document_01(
+    sides: [u32; 3],
+    grey: u16,
+    samples: &[u16],
+) -> (Vec<Point>, Vec<[u32; 3]>) {
+    let grid = Grid {
+        sides,
+        grey,
+        samples,
+    };
+    let points = grid.points();
+    let triangles = grid.triangles(&points, cube::triangles_of_document_01);
+    (points, triangles)
 }

@@ -11,10 +11,13 @@ pub(crate) struct Grid<'a> {
 }
 
 /// The point of one crossed grid edge.
-pub(crate) struct Point {
-    pub(crate) edge: u32,
-    pub(crate) place: [u32; 3],
-    pub(crate) mark: u8,
+pub struct Point {
+    /// The number of the grid edge.
+    pub edge: u32,
+    /// Its coordinates along x, y and z, in units.
+    pub place: [u32; 3],
+    /// 1 on an outer face, else 0.
+    pub mark: u8,
 }
 
 /// "256·|g − v0| / |v1 − v0| to the nearest whole number, halves up (g is the

@@ -124,28 +124,12 @@ pub fn same(
 
 /// The surface of a grid with document 01's fans, which start at the lowest edges of their loops, by the reference.
 pub fn surface_of_document_01(sides: [u32; 3], grey: u16, samples: &[u16]) -> viewer::Surface {
-    let [nx, ny, nz] = sides;
-    let mut rooms = Rooms::guarded(roomy(sides));
-    let found = reference::extract::extract_by(
-        reference::cube::triangles_of_document_01,
-        nx,
-        ny,
-        nz,
-        grey,
-        samples,
-        &mut rooms.points,
-        &mut rooms.edges,
-        &mut rooms.marks,
-        &mut rooms.triangles,
-        &mut rooms.work,
-    );
-    assert_eq!(found.number, 0);
-    let (points, triangles) = (found.points as usize, found.triangles as usize);
+    let (points, triangles) = reference::extract::mesh_of_document_01(sides, grey, samples);
     viewer::Surface {
-        points: rooms.points[..3 * points].to_vec(),
-        edges: rooms.edges[..points].to_vec(),
-        marks: rooms.marks[..points].to_vec(),
-        triangles: rooms.triangles[..3 * triangles].to_vec(),
+        points: points.iter().flat_map(|point| point.place).collect(),
+        edges: points.iter().map(|point| point.edge).collect(),
+        marks: points.iter().map(|point| point.mark).collect(),
+        triangles: triangles.concat(),
     }
 }
 
