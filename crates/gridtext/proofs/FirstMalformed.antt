@@ -19,11 +19,11 @@ use Rattle.gridtext.specs.declared.Head.{Head}
 use Rattle.reading.proofs.Digits.{never}
 use Rattle.gridtext.proofs.Heads.{head-is-read, read-is-head}
 use Rattle.gridtext.proofs.Checks.{passed, head-refused, room-holds}
-use Rattle.reading.proofs.Texts.{row-written, row-read}
+use Rattle.reading.proofs.Fields.{row-written, row-read}
 
 -- a row is read exactly if the text begins with one
 row-is-read : (width : ℕ) (text more : List ℕ) (r : RowThen width text more) → readRow mostNumber width text ≡ got (r .numbers) more
-row-is-read width text more r = rw (r .written, sym (r .many)) (row-written mostNumber (r .numbers) more (r .within))
+row-is-read width text more r = rw (r .written, sym (r .many)) (row-written mostNumber (r .numbers) more (omega arith) (r .within))
 
 read-is-row : (width : ℕ) (text ns more : List ℕ) → readRow mostNumber width text ≡ got ns more → RowThen width text more
 read-is-row width text ns more e =

@@ -23,7 +23,8 @@ use Rattle.gridtext.specs.declared.Head.{Head}
 use Rattle.grid.proofs.Sides.{sides-within}
 use Rattle.gridtext.proofs.Heads.{read-is-head}
 use Rattle.gridtext.proofs.Checks.{passed, head-refused, room-short, room-holds}
-use Rattle.reading.proofs.Texts.{part, row-written, rows-written, rows-read}
+use Rattle.reading.proofs.Fields.{row-written}
+use Rattle.reading.proofs.Texts.{part, rows-written, rows-read}
 
 -- the rows of a grid in the order of the file
 row-part : (h : Head) (samples : List ℕ) (y z : ℕ) → sampleRow (headSize h) samples y z ≡ part (h .nx) samples (h .ny * z + y)
@@ -71,7 +72,7 @@ head-within h e g =
 
 head-written : (h : Head) (rest : List ℕ) → headNumber h ≡ 0 → h .grey ≤ mostNumber → readHead (headText h ++ rest) ≡ got h rest
 unfolding readHead headText after headOf
-head-written h rest e g = rw (row-written mostNumber (h .nx ∷ h .ny ∷ h .nz ∷ h .grey ∷ h .rounds ∷ h .weight ∷ []) rest (head-within h e g))
+head-written h rest e g = rw (row-written mostNumber (h .nx ∷ h .ny ∷ h .nz ∷ h .grey ∷ h .rounds ∷ h .weight ∷ []) rest (omega arith) (head-within h e g))
 
 -- the text of a small grid is read as that grid
 pub grid-read : (h : Head) (samples room : List ℕ) → Small h samples → samplesOf h ≤ length room → readGrid (gridText h samples) room ≡ granted h samples room
@@ -81,7 +82,7 @@ grid-read h samples room s l =
       head-written h (rowsText (headSize h) samples) (s .checked) (s .grey),
       room-holds h (rowsText (headSize h) samples) room (s .checked) l,
       rows-parts h samples,
-      rows-written mostNumber (h .nx) (h .ny * h .nz) 2 (part (h .nx) samples) (part-fits mostNumber (h .nx) samples (s .within)),
+      rows-written mostNumber (h .nx) (h .ny * h .nz) 2 (part (h .nx) samples) (omega arith) (part-fits mostNumber (h .nx) samples (s .within)),
       parts-whole (h .nx) (h .ny * h .nz) samples (s .whole),
     )
 

@@ -14,7 +14,7 @@ use Rattle.laws.proofs.Ranges.{all-entries}
 use Rattle.grid.specs.Limits.{mostNumber}
 use Rattle.reading.specs.Reading.{Got, bad, got, after, readRow}
 use Rattle.reading.proofs.Digits.{never}
-use Rattle.reading.proofs.Texts.{row-written, row-read}
+use Rattle.reading.proofs.Fields.{row-written, row-read}
 use Rattle.gridtext.specs.Grid.{letterG, headOf, readHead}
 use Rattle.gridtext.specs.GridText.{headText}
 use Rattle.gridtext.specs.Malformed.{HeadThen}
@@ -26,7 +26,7 @@ headNumbers h = h .nx ∷ h .ny ∷ h .nz ∷ h .grey ∷ h .rounds ∷ h .weigh
 
 pub head-is-read : (text rest : List ℕ) (h : Head) → HeadThen text h rest → readHead text ≡ got h rest
 unfolding readHead headText after headOf
-head-is-read text rest h t = rw (t .written, row-written mostNumber (headNumbers h) rest (t .within))
+head-is-read text rest h t = rw (t .written, row-written mostNumber (headNumbers h) rest (omega arith) (t .within))
 
 six : (ns : List ℕ) → length ns ≡ 6 → headNumbers (headOf ns) ≡ ns
 unfolding headOf joinTo

@@ -2,3 +2,4 @@
 pub mod Decimals
 pub mod Bytes
 pub mod Quoted
+pub mod Fields

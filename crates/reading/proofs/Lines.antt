@@ -1,4 +1,4 @@
--- A line of numbers and a run of lines, read piece by piece.
+-- Numbers in a line and a run of lines, read piece by piece.
 use mathlib.Core.Path.{_≡_, refl, ap, sym, _∙_}
 use mathlib.Core.List.{List, [], _∷_, _++_, append-assoc, append-nil}
 use Prim.Native.Nat.{ℕ, suc, _+_, _*_, _-_, _≤_, _<_}
@@ -7,7 +7,7 @@ use native.Mathlib.Numerals.{add-one}
 use native.Mathlib.Omega.{arith}
 use lib.ListN.{length, take, drop, set, length-drop}
 use lib.Seq.{take-suc-set, drop-set-add, take-add}
-use Rattle.reading.specs.Reading.{Got, bad, got, after, readField, readRow, GotRows, malformed, rows, ahead, lineThen, readRows}
+use Rattle.reading.specs.Reading.{Got, bad, got, after, readField, readFields, readRow, GotRows, malformed, rows, ahead, lineThen, readRows}
 use Rattle.lines.specs.Line.{endOf}
 
 -- numbers read before a line goes on
@@ -24,41 +24,41 @@ unfolding before after
 before-before ns ms bad = refl
 before-before ns ms (got ls rest) = rw append-assoc
 
-module _ (most : ℕ) (ns : List ℕ) where
-  row-ends : (bs : List ℕ) → before ns (readRow most 0 bs) ≡ got ns bs
-  unfolding before after readRow
-  row-ends bs = rw append-nil
+module _ (most more : ℕ) (ns : List ℕ) where
+  fields-end : (bs : List ℕ) → before ns (readFields most more 0 bs) ≡ got ns bs
+  unfolding before after readFields
+  fields-end bs = rw append-nil
 
-  row-fails : (k : ℕ) (bs : List ℕ) → readField most (endOf k) bs ≡ bad → before ns (readRow most (suc k) bs) ≡ bad
-  unfolding before after readRow
-  row-fails k bs e = rw e
+  fields-fail : (k : ℕ) (bs : List ℕ) → readField most (endOf (k + more)) bs ≡ bad → before ns (readFields most more (suc k) bs) ≡ bad
+  unfolding before after readFields
+  fields-fail k bs e = rw e
 
-  row-first : (k n : ℕ) (bs rest : List ℕ) → readField most (endOf k) bs ≡ got n rest → readRow most (suc k) bs ≡ before (n ∷ []) (readRow most k rest)
-  unfolding before after readRow
-  row-first k n bs rest e = rw e
+  fields-first : (k n : ℕ) (bs rest : List ℕ) → readField most (endOf (k + more)) bs ≡ got n rest → readFields most more (suc k) bs ≡ before (n ∷ []) (readFields most more k rest)
+  unfolding before after readFields
+  fields-first k n bs rest e = rw e
 
-  row-next : (k n : ℕ) (bs rest : List ℕ) → readField most (endOf k) bs ≡ got n rest → before ns (readRow most (suc k) bs) ≡ before (ns ++ (n ∷ [])) (readRow most k rest)
-  row-next k n bs rest e = ap (before ns) (row-first k n bs rest e) ∙ before-before ns (n ∷ []) (readRow most k rest)
+  fields-next : (k n : ℕ) (bs rest : List ℕ) → readField most (endOf (k + more)) bs ≡ got n rest → before ns (readFields most more (suc k) bs) ≡ before (ns ++ (n ∷ [])) (readFields most more k rest)
+  fields-next k n bs rest e = ap (before ns) (fields-first k n bs rest e) ∙ before-before ns (n ∷ []) (readFields most more k rest)
 
 -- the same in a loop: it begins, ends, and has read i of so many numbers, with the byte that is to end the next
-pub row-begins : (most count : ℕ) (bs : List ℕ) → readRow most count bs ≡ before [] (readRow most (count - 0) bs)
-row-begins most count bs = rw sub-zero (sym (before-none (readRow most count bs)))
+pub fields-begin : (most more count : ℕ) (bs : List ℕ) → readFields most more count bs ≡ before [] (readFields most more (count - 0) bs)
+fields-begin most more count bs = rw sub-zero (sym (before-none (readFields most more count bs)))
 
-pub row-done : (most count i : ℕ) (stands : ℕ → List ℕ) (bs : List ℕ) → i ≡ count → before (stands i) (readRow most (count - i) bs) ≡ got (stands count) bs
-row-done most count i stands bs q =
+pub fields-done : (most more count i : ℕ) (stands : ℕ → List ℕ) (bs : List ℕ) → i ≡ count → before (stands i) (readFields most more (count - i) bs) ≡ got (stands count) bs
+fields-done most more count i stands bs q =
     let e : count - count ≡ 0 = omega arith in
-    rw (q, e) (row-ends most (stands count) bs)
+    rw (q, e) (fields-end most more (stands count) bs)
 
-module _ (most count i : ℕ) (ns bs : List ℕ) where
-  module _ (end : ℕ) (l : i < count) (q : end ≡ endOf (count - i - 1)) where
-    pub row-stops : readField most end bs ≡ bad → before ns (readRow most (count - i) bs) ≡ bad
-    row-stops h = let e : count - i ≡ suc (count - i - 1) = omega arith in rw e (row-fails most ns (count - i - 1) bs (rw q at h))
+module _ (most more count i : ℕ) (ns bs : List ℕ) where
+  module _ (end : ℕ) (l : i < count) (q : end ≡ endOf (count - i - 1 + more)) where
+    pub fields-stop : readField most end bs ≡ bad → before ns (readFields most more (count - i) bs) ≡ bad
+    fields-stop h = let e : count - i ≡ suc (count - i - 1) = omega arith in rw e (fields-fail most more ns (count - i - 1) bs (rw q at h))
 
-    pub row-turn : (n : ℕ) (rest : List ℕ) → readField most end bs ≡ got n rest → before ns (readRow most (count - i) bs) ≡ before (ns ++ (n ∷ [])) (readRow most (count - (i + 1)) rest)
-    row-turn n rest h =
+    pub fields-turn : (n : ℕ) (rest : List ℕ) → readField most end bs ≡ got n rest → before ns (readFields most more (count - i) bs) ≡ before (ns ++ (n ∷ [])) (readFields most more (count - (i + 1)) rest)
+    fields-turn n rest h =
         let e : count - i ≡ suc (count - i - 1) = omega arith in
         let f : count - (i + 1) ≡ count - i - 1 = omega arith in
-        rw (e, f) (row-next most ns (count - i - 1) n bs rest (rw q at h))
+        rw (e, f) (fields-next most more ns (count - i - 1) n bs rest (rw q at h))
 
 -- a number written behind those that stand in a room from a place on
 module _ (room : List ℕ) (base i v : ℕ) (l : base + i < length room) where

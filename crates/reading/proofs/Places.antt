@@ -1,14 +1,14 @@
 -- What is read at a place of an input, by the byte that stands there.
 use mathlib.Core.Path.{_≡_}
 use mathlib.Core.List.{List, []}
-use mathlib.Core.Bool.{true, false}
+use mathlib.Core.Bool.{Bool, true, false}
 use Prim.Native.Nat.{ℕ, _+_, _*_, _-_, _≤_, _<_}
 use native.Mathlib.Omega.{arith}
 use borrow.Author.Tests.{eq-eqb, ne-eqb}
 use lib.ListN.{length, getD, drop, drop-of-length-le}
 use Rattle.lines.specs.Decimal.{digitZero, isDigit}
 use Rattle.reading.specs.Reading.{Got, bad, got, digitsOn, readNumber, after, endedBy, readField}
-use Rattle.reading.specs.Answers.{answered, Reads, answeredLine}
+use Rattle.reading.specs.Answers.{gotAt, Reads, answeredLine}
 use Rattle.reading.specs.declared.Field.{Field}
 use Rattle.reading.specs.declared.Line.{Line}
 use Rattle.lines.proofs.Bytes.{byte-at}
@@ -16,25 +16,30 @@ use Rattle.reading.proofs.Digits.{digits-stop, digits-over, digits-next
 
 -- nothing was read, and so it is answered
 pub reads-nothing : {input : List ℕ} {most : ℕ} {read : Got ℕ} {r : Field} → (r .ok ≡ false) × (r .value ≡ 0) × (r .next ≡ 0) → read ≡ bad → Reads input most read r
-unfolding answered
+unfolding gotAt
 reads-nothing n e = record { same = rw (n .0) e; within = omega arith; inside = omega arith }
 
 -- what was read, by the answer
+module _ {A : Type 0} {read : Got A} (input : List ℕ) (ok : Bool) (a : A) (next : ℕ) (h : read ≡ gotAt input ok a next) where
+  pub got-not : ok ≡ false → read ≡ bad
+  unfolding gotAt
+  got-not e = rw e at h
+
+  pub got-is : ok ≡ true → read ≡ got a (drop next input)
+  unfolding gotAt
+  got-is e = rw e at h
+
 pub read-not : {input : List ℕ} {most : ℕ} {read : Got ℕ} {r : Field} → Reads input most read r → r .ok ≡ false → read ≡ bad
-unfolding answered
-read-not {r = r} h e = rw e at (h .same)
+read-not {input = input} {r = r} h e = got-not input (r .ok) (r .value) (r .next) (h .same) e
 
 pub read-is : {input : List ℕ} {most : ℕ} {read : Got ℕ} {r : Field} → Reads input most read r → r .ok ≡ true → read ≡ got (r .value) (drop (r .next) input)
-unfolding answered
-read-is {r = r} h e = rw e at (h .same)
+read-is {input = input} {r = r} h e = got-is input (r .ok) (r .value) (r .next) (h .same) e
 
 pub line-not : (input ns : List ℕ) (r : Line) {read : Got (List ℕ)} → read ≡ answeredLine input r ns → r .ok ≡ false → read ≡ bad
-unfolding answeredLine
-line-not input ns r h e = rw e at h
+line-not input ns r h e = got-not input (r .ok) ns (r .next) h e
 
 pub line-is : (input ns : List ℕ) (r : Line) {read : Got (List ℕ)} → read ≡ answeredLine input r ns → r .ok ≡ true → read ≡ got ns (drop (r .next) input)
-unfolding answeredLine
-line-is input ns r h e = rw e at h
+line-is input ns r h e = got-is input (r .ok) ns (r .next) h e
 
 module _ (most v : ℕ) (input : List ℕ) (at : ℕ) where
   pub digits-end-at : length input ≤ at → digitsOn most v (drop at input) ≡ got v (drop at input)

@@ -1,10 +1,15 @@
 -- Pieces read from the front of a text.
 use mathlib.Core.List.{List, [], _∷_, _++_}
-use mathlib.Core.Bool.{cond}
-use Prim.Native.Nat.{ℕ, zero, suc, _+_, _*_, _-_}
+use mathlib.Core.Bool.{Bool, cond, _&&_}
+use Prim.Native.Nat.{ℕ, zero, suc, _+_, _*_, _-_, _^_}
 use lib.Dec.{eqb, leb}
-use Rattle.lines.specs.Decimal.{digit, isDigit}
-use Rattle.lines.specs.Line.{endOf}
+use lib.IntN.{ℤ, pos, negsuc}
+use Rattle.lines.specs.Decimal.{digit, isDigit, minusSign}
+use Rattle.lines.specs.Line.{endOf, tab}
+
+-- the largest number of 32 bits
+abbrev pub mostWord : ℕ
+mostWord = 2 ^ 32 - 1
 
 -- what the text starts with, and the rest of it; or the text starts otherwise
 pub data Got (A : Type 0) : Type 0 where
@@ -29,13 +34,46 @@ unfoldable pub readNumber : ℕ → List ℕ → Got ℕ
 readNumber most [] = bad
 readNumber most (b ∷ bs) = cond (eqb b (digit 0)) (got 0 bs) (cond (isDigit b) (digitsOn most (b - digit 0) bs) bad)
 
+-- a signed number of at most that size: it has a minus sign if and only if it is negative, so that `-0` is none
+unfoldable pub negated : ℕ → List ℕ → Got ℤ
+negated zero rest = bad
+negated (suc n) rest = got (negsuc n) rest
+
+unfoldable pub readSigned : ℕ → List ℕ → Got ℤ
+readSigned most [] = bad
+readSigned most (b ∷ bs) =
+    cond (eqb b minusSign) (after negated (readNumber most bs)) (after (λ n rest. got (pos n) rest) (readNumber most (b ∷ bs)))
+
 -- a number and the byte that ends it
-unfoldable pub endedBy : ℕ → ℕ → List ℕ → Got ℕ
+unfoldable pub endedBy : {A : Type 0} → ℕ → A → List ℕ → Got A
 endedBy end n [] = bad
 endedBy end n (b ∷ rest) = cond (eqb b end) (got n rest) bad
 
 unfoldable pub readField : ℕ → ℕ → List ℕ → Got ℕ
 readField most end bs = after (endedBy end) (readNumber most bs)
+
+unfoldable pub readSignedField : ℕ → ℕ → List ℕ → Got ℤ
+readSignedField most end bs = after (endedBy end) (readSigned most bs)
+
+-- so many numbers that have `more` fields after them in their line
+unfoldable pub readFields : ℕ → ℕ → ℕ → List ℕ → Got (List ℕ)
+readFields most more zero bs = got [] bs
+readFields most more (suc k) bs =
+    after (λ n rest. after (λ ns rest. got (n ∷ ns) rest) (readFields most more k rest)) (readField most (endOf (k + more)) bs)
+
+-- one piece and then another, put together
+unfoldable pub readBoth : {A B C : Type 0} → (A → B → C) → (List ℕ → Got A) → (List ℕ → Got B) → List ℕ → Got C
+readBoth build first second bs = after (λ a rest. after (λ b rest. got (build a b) rest) (second rest)) (first bs)
+
+-- one piece behind a letter and a tab
+unfoldable pub readLettered : {A : Type 0} → ℕ → (List ℕ → Got A) → List ℕ → Got A
+readLettered letter read [] = bad
+readLettered letter read (b ∷ []) = bad
+readLettered letter read (b ∷ c ∷ bs) = cond (eqb b letter && eqb c tab) (read bs) bad
+
+-- one piece, if it passes a test
+unfoldable pub readIf : {A : Type 0} → (A → Bool) → (List ℕ → Got A) → List ℕ → Got A
+readIf test read bs = after (λ a rest. cond (test a) (got a rest) bad) (read bs)
 
 -- a line, or what is left of it, of so many numbers
 unfoldable pub readRow : ℕ → ℕ → List ℕ → Got (List ℕ)

@@ -2,13 +2,19 @@
 ghost use Prim.Native.Nat.{_+_, _*_, _^_, _≤_, _<_};
 ghost use mathlib.Core.Path.{_≡_};
 ghost use mathlib.Core.Bool.{false};
+ghost use lib.IntN.{pos};
 ghost use lib.ListN.{length, take, drop};
 ghost use Rattle.lines.specs.Decimal.{isDigit};
-ghost use Rattle.reading.specs.Reading.{digitsOn, readNumber, readField, readRow, readRows};
+ghost use Rattle.lines.specs.Line.{mostFields};
+ghost use Rattle.reading.specs.Reading.{mostWord, digitsOn, readNumber, readField, readSignedField, readFields, readRow, readRows};
 ghost use Rattle.grid.specs.Limits.{mostNumber};
-ghost use Rattle.reading.specs.Answers.{Reads, answeredLine, answeredRows};
+ghost use Rattle.reading.specs.Answers.{Reads, ReadsSigned, answeredLine, answeredRows};
 use grid::limits::MOST_NUMBER;
+use laws::signed::excess;
 use lines::end_of;
+
+// The largest number of 32 bits.
+pub const MOST_WORD: u64 = 4_294_967_295;
 
 // The number that was read, and the place behind it; or not ok.
 pub struct Field {
@@ -17,7 +23,14 @@ pub struct Field {
     pub next: usize,
 }
 
-// A line was read, up to the place behind it; or not ok.
+// The signed number that was read, and the place behind it; or not ok.
+pub struct Signed {
+    pub ok: bool,
+    pub value: i64,
+    pub next: usize,
+}
+
+// A line, or a part of one, was read, up to the place behind it; or not ok.
 pub struct Line {
     pub ok: bool,
     pub next: usize,
@@ -42,11 +55,12 @@ fn is_digit(byte: u8) -> bool
     byte <= b'9'
 }
 
-// Goes on reading digits after those whose number is `first`. Whether the number stays within `most` is asked before it is made, so that it cannot wrap.
+// Goes on reading digits after those whose number is `first`. A number above a tenth of `most` takes no further digit, and ten times any other with its digit cannot wrap; the one division stands before the loop.
 fn read_digits(input: &[u8], from: usize, first: u64, most: u64) -> Field
-    requires { ⌜ (from ≤ length (now input)) × (first ≤ most) × (9 ≤ most) ⌝ }
+    requires { ⌜ (from ≤ length (now input)) × (first ≤ most) × (most < 2 ^ 63) ⌝ }
     ensures { λ r. ⌜ Reads (now (input .entry)) most (digitsOn most first (drop from (now (input .entry)))) r ⌝ }
 {
+    let tenth = most / 10;
     let mut at = from;
     let mut value = first;
     while at < input.len() {
@@ -59,10 +73,13 @@ fn read_digits(input: &[u8], from: usize, first: u64, most: u64) -> Field
             };
         }
         let digit = (byte - b'0') as u64;
-        if value > (most - digit) / 10 {
+        if value > tenth {
             return nothing();
         }
         value = 10 * value + digit;
+        if value > most {
+            return nothing();
+        }
         at += 1;
     }
     Field {
@@ -74,7 +91,7 @@ fn read_digits(input: &[u8], from: usize, first: u64, most: u64) -> Field
 
 // A number from 0 to `most`, with no sign and no needless zero.
 pub fn read_number(input: &[u8], from: usize, most: u64) -> Field
-    requires { ⌜ 9 ≤ most ⌝ }
+    requires { ⌜ (9 ≤ most) × (most < 2 ^ 63) ⌝ }
     ensures { λ r. ⌜ Reads (now (input .entry)) most (readNumber most (drop from (now (input .entry)))) r ⌝ }
 {
     if from >= input.len() {
@@ -97,7 +114,7 @@ pub fn read_number(input: &[u8], from: usize, most: u64) -> Field
 
 // A number and the byte that ends it.
 pub fn read_field(input: &[u8], from: usize, most: u64, end: u8) -> Field
-    requires { ⌜ 9 ≤ most ⌝ }
+    requires { ⌜ (9 ≤ most) × (most < 2 ^ 63) ⌝ }
     ensures { λ r. ⌜ Reads (now (input .entry)) most (readField most end (drop from (now (input .entry)))) r ⌝ }
 {
     let field = read_number(input, from, most);
@@ -116,6 +133,63 @@ pub fn read_field(input: &[u8], from: usize, most: u64, end: u8) -> Field
         value: field.value,
         next: at + 1,
     }
+}
+
+fn nothing_signed() -> Signed
+    ensures { λ r. ⌜ r ≡ record { ok = false; value = pos 0; next = 0 } ⌝ }
+{
+    Signed {
+        ok: false,
+        value: 0,
+        next: 0,
+    }
+}
+
+// A signed number and the byte that ends it: a minus sign if and only if it is negative.
+pub fn read_signed(input: &[u8], from: usize, most: u64, end: u8) -> Signed
+    requires { ⌜ (9 ≤ most) × (most < 2 ^ 63) ⌝ }
+    ensures { λ r. ⌜ ReadsSigned (now (input .entry)) most (readSignedField most end (drop from (now (input .entry)))) r ⌝ }
+{
+    if from >= input.len() {
+        return nothing_signed();
+    }
+    if input[from] != b'-' {
+        let field = read_field(input, from, most, end);
+        return Signed {
+            ok: field.ok,
+            value: field.value as i64,
+            next: field.next,
+        };
+    }
+    let size = read_field(input, from + 1, most, end);
+    if size.value == 0 {
+        return nothing_signed();
+    }
+    Signed {
+        ok: size.ok,
+        value: excess(0, size.value),
+        next: size.next,
+    }
+}
+
+// Reads numbers of 32 bits that have `more` fields after them in their line into the whole room. Where the line is malformed the room may hold the numbers before that.
+pub fn read_fields(input: &[u8], from: usize, more: usize, room: &mut [u32]) -> Line
+    requires { ⌜ (from ≤ length (now input)) × (more < mostFields) ⌝ }
+    ensures line { λ r. ⌜ readFields mostWord more (length (now (room .entry))) (drop from (now (input .entry))) ≡ answeredLine (now (input .entry)) r (now (room .exit)) ⌝ }
+    ensures inside { λ r. ⌜ r .next ≤ length (now (input .entry)) ⌝ }
+{
+    let mut at = from;
+    let mut i = 0;
+    while i < room.len() {
+        let field = read_field(input, at, MOST_WORD, end_of(room.len() - i - 1 + more));
+        if !field.ok {
+            return Line { ok: false, next: 0 };
+        }
+        room[i] = field.value as u32;
+        at = field.next;
+        i += 1;
+    }
+    Line { ok: true, next: at }
 }
 
 // Reads a line of `count` numbers of 16 bits into the room from `base` on.

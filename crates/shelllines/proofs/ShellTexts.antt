@@ -11,7 +11,8 @@ use Rattle.lines.specs.Decimal.{signed}
 use Rattle.lines.specs.Line.{tab, line, fields}
 use Rattle.records.specs.declared.Shell.{Shell}
 use Rattle.shelllines.specs.ShellLines.{letterS, countsOf, boxOf, shellText, shellsText}
-use Rattle.writing.proofs.Fields.{fields-as-long, fields-line}
+use Rattle.lines.proofs.Fields.{fields-line}
+use Rattle.writing.proofs.Fields.{fields-as-long}
 use Rattle.laws.specs.Range.{joinTo}
 use Rattle.meshlines.proofs.LinesWritten.{linesTo, lines-length, lines-rise, lines-written}
 

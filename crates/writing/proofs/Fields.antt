@@ -3,7 +3,7 @@ use mathlib.Core.Path.{_≡_, refl, ap, sym, _∙_}
 use mathlib.Core.Bool.{Bool, true, false, cond}
 use mathlib.Core.List.{List, [], _∷_, _++_, append-assoc}
 use Prim.Native.Nat.{ℕ, zero, suc, _+_, _-_, _/_, _%_, _^_, _≤_, _<_}
-use native.Mathlib.Nat.{pow-succ', add-zero}
+use native.Mathlib.Nat.{pow-succ'}
 use native.Mathlib.Decide.{decLt}
 use native.Mathlib.Omega.{arith}
 use lib.Dec.{ltb}
@@ -13,10 +13,11 @@ use borrow.Author.Tests.{le-ltb, lt-ltb}
 use Rattle.laws.specs.Room.{laid}
 use Rattle.laws.proofs.Writes.{sets-append, sets-front, sets-below}
 use Rattle.lines.specs.Decimal.{digit, decimal}
-use Rattle.lines.specs.Line.{endOf, line, fields, lettered}
+use Rattle.lines.specs.Line.{endOf, fields, lettered}
 use Rattle.writing.specs.Writing.{outcome, written}
 use Rattle.lines.proofs.Decimals.{decimal-one, decimal-more}
 use Rattle.lines.proofs.Bytes.{byte-at}
+use Rattle.lines.proofs.Fields.{fields-line}
 
 -- a number has one digit, or one more than its tenth
 pub digits-one : (n : ℕ) → n < 10 → length (decimal n) ≡ 1
@@ -101,17 +102,12 @@ pub fields-end : (more : ℕ) (ns : List ℕ) (i : ℕ) → length ns ≤ i → 
 unfolding fields
 fields-end more ns i l = rw (drop-of-length-le ns l)
 
--- fields are as long whatever comes after them, and those of a whole line are the line
+-- fields are as long whatever comes after them
 pub fields-as-long : (more : ℕ) (ns : List ℕ) → length (fields more ns) ≡ length (fields 0 ns)
 unfolding fields
 fields-as-long more [] = refl
 fields-as-long more (n ∷ ns) =
     rw (length-append (decimal n) (endOf (length ns + more) ∷ fields more ns), length-append (decimal n) (endOf (length ns + 0) ∷ fields 0 ns)) (omega (arith, fields-as-long more ns))
-
-pub fields-line : (ns : List ℕ) → fields 0 ns ≡ line ns
-unfolding fields line
-fields-line [] = refl
-fields-line (n ∷ ns) = rw (add-zero, fields-line ns)
 
 -- a letter and a tab before them
 pub lettered-written : (room left : List ℕ) (letter at : ℕ) (ns : List ℕ) → left ≡ sets (set (set room at letter) (at + 1) 9) (at + 2) (fields 0 ns) → left ≡ sets room at (lettered letter ns)

@@ -6,7 +6,7 @@ use lib.ListN.{length, drop}
 use borrow.Author.Needs.{needs}
 use borrow.Author.Tests.{not-true, not-false}
 use Rattle.reading.specs.Reading.{digitsOn}
-use Rattle.reading.specs.Answers.{answered}
+use Rattle.reading.specs.Answers.{gotAt}
 use Rattle.lines.proofs.Decimals.{of-digit}
 use Rattle.reading.proofs.Places.{reads-nothing, digits-end-at, digits-stop-at, digits-over-at, digits-next-at}
 use Rattle.reading.proofs.read_digits.Statement.{statement}
@@ -16,11 +16,11 @@ use Rattle.reading.proofs.read_digits.Lts as lts
 use Rattle.reading.proofs.is_digit.Reads as is-digit-reads
 
 abbrev Inv-loop : tie.InvT-loop
-Inv-loop input from first most at₀ value₀ at value =
+Inv-loop input from first most tenth at₀ value₀ at value =
     (at ≤ length input) × (value ≤ most) × (digitsOn most first (drop from input) ≡ digitsOn most value (drop at input))
 
 abbrev μ-loop : tie.MeasureT-loop
-μ-loop input from first most at₀ value₀ at value = length input - at
+μ-loop input from first most tenth at₀ value₀ at value = length input - at
 
 loop-holds : tie.Need-loop-holds Inv-loop μ-loop
 loop-holds c = (omega arith, omega arith, refl)
@@ -32,7 +32,7 @@ is-digit-requires : tie.Need-is-digit-requires Inv-loop μ-loop
 is-digit-requires c κs = search needs
 
 returns : tie.Need-returns Inv-loop μ-loop
-unfolding answered
+unfolding gotAt
 returns c =
     let l = c .before .before .before .before in
     record {
@@ -46,9 +46,6 @@ sub-digit c = omega (arith, of-digit _ (sym (c .before .is-digit .ensures) ∙ n
 
 cast-digit : tie.Need-cast-digit Inv-loop μ-loop
 cast-digit c = omega (arith, of-digit _ (sym (c .before .is-digit .ensures) ∙ not-false _ (c .if1 .left)))
-
-sub-if2 : tie.Need-sub-if2 Inv-loop μ-loop
-sub-if2 c = omega (arith, of-digit _ (sym (c .before .is-digit .ensures) ∙ not-false _ (c .if1 .left)))
 
 nothing-requires : tie.Need-nothing-requires Inv-loop μ-loop
 nothing-requires c κs = search needs
@@ -66,6 +63,16 @@ mul-value c = omega arith
 add-value : tie.Need-add-value Inv-loop μ-loop
 add-value c = omega (arith, of-digit _ (sym (c .before .before .is-digit .ensures) ∙ not-false _ (c .before .if1 .left)))
 
+nothing-requires-2 : tie.Need-nothing-requires-2 Inv-loop μ-loop
+nothing-requires-2 c κs = search needs
+
+returns-3 : tie.Need-returns-3 Inv-loop μ-loop
+returns-3 c =
+    let l = c .before .before .before .before .before .before .before in
+    let d = sym (c .before .before .before .before .is-digit .ensures) ∙ not-false _ (c .before .before .before .if1 .left) in
+    reads-nothing (c .nothing2 .ensures)
+    (l .loop .inv .2 ∙ digits-over-at _ (l .loop .value) (l .before .before .args .input .now) (l .loop .at) (omega arith) d (c .before .if3 .taken))
+
 add-at : tie.Need-add-at Inv-loop μ-loop
 add-at c = omega arith
 
@@ -74,13 +81,13 @@ loop-less c = omega arith
 
 loop-again : tie.Need-loop-again Inv-loop μ-loop
 loop-again c =
-    let l = c .before .before .before .before .before in
-    let d = sym (c .before .before .is-digit .ensures) ∙ not-false _ (c .before .if1 .left) in
-    (omega arith, omega (arith, of-digit _ d), l .loop .inv .2 ∙ digits-next-at _ (l .loop .value) (l .before .before .args .input .now) (l .loop .at) (omega arith) d (omega (arith, of-digit _ d)))
+    let l = c .before .before .before .before .before .before in
+    let d = sym (c .before .before .before .is-digit .ensures) ∙ not-false _ (c .before .before .if1 .left) in
+    (omega arith, c .if3 .left, l .loop .inv .2 ∙ digits-next-at _ (l .loop .value) (l .before .before .args .input .now) (l .loop .at) (omega arith) d (c .if3 .left))
 
-returns-3 : tie.Need-returns-3 Inv-loop μ-loop
-unfolding answered
-returns-3 c =
+returns-4 : tie.Need-returns-4 Inv-loop μ-loop
+unfolding gotAt
+returns-4 c =
     let l = c .before in
     record {
       same = l .loop .inv .2 ∙ digits-end-at _ (l .loop .value) (l .before .before .args .input .now) (l .loop .at) (omega arith);
@@ -100,12 +107,13 @@ read-digits-spec =
     returns
     sub-digit
     cast-digit
-    sub-if2
     nothing-requires
     returns-2
     mul-value
     add-value
+    nothing-requires-2
+    returns-3
     add-at
     loop-less
     loop-again
-    returns-3)
+    returns-4)

@@ -2,7 +2,7 @@
 use mathlib.Core.List.{[]}
 use native.Mathlib.Omega.{arith}
 use borrow.Author.Tests.{not-true, not-false}
-use Rattle.reading.specs.Answers.{answered}
+use Rattle.reading.specs.Answers.{gotAt}
 use Rattle.reading.proofs.Places.{reads-nothing, read-not, read-is, field-none, field-end-at, field-other-at, field-at}
 use borrow.Author.Needs.{needs}
 use Rattle.reading.proofs.read_field.Statement.{statement}
@@ -42,7 +42,7 @@ add-t8 : tie.Need-add-t8
 add-t8 c = search needs
 
 returns-4 : tie.Need-returns-4
-unfolding answered
+unfolding gotAt
 returns-4 c =
     let e = c .before .before .before in
     record {

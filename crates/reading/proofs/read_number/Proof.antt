@@ -2,7 +2,7 @@
 use mathlib.Core.Path.{sym, _∙_}
 use native.Mathlib.Omega.{arith}
 use borrow.Author.Tests.{not-true, not-false}
-use Rattle.reading.specs.Answers.{answered}
+use Rattle.reading.specs.Answers.{gotAt}
 use Rattle.lines.proofs.Decimals.{of-digit}
 use Rattle.reading.proofs.Places.{reads-nothing, number-end-at, number-zero-at, number-none-at, number-starts-at}
 use borrow.Author.Needs.{needs}
@@ -22,7 +22,7 @@ add-t10 : tie.Need-add-t10
 add-t10 c = search needs
 
 returns-2 : tie.Need-returns-2
-unfolding answered
+unfolding gotAt
 returns-2 c =
     record {
       same = number-zero-at _ (c .before .before .before .before .args .input .now) _ (omega arith) (c .if2 .taken);

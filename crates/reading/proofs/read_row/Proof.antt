@@ -1,29 +1,32 @@
 -- `reading::read_row` meets its contract: what stands in the room, and then the rest of the line. Assumes nothing.
-use mathlib.Core.Path.{_≡_, refl, _∙_}
+use mathlib.Core.Path.{_≡_, refl, ap, sym, _∙_}
 use Prim.Native.Nat.{_+_, _-_, _≤_, _<_}
+use native.Mathlib.Nat.{add-zero}
 use native.Mathlib.Omega.{arith}
 use lib.ListN.{length, take, drop, length-set}
 use lib.Seq.{take-set-le}
 use borrow.Author.Needs.{needs}
 use borrow.Author.Tests.{not-true, not-false}
-use Rattle.reading.specs.Reading.{readRow}
+use Rattle.lines.specs.Line.{endOf}
+use Rattle.reading.specs.Reading.{readRow, readFields}
 use Rattle.grid.specs.Limits.{mostNumber}
-use Rattle.reading.specs.Answers.{answeredLine}
+use Rattle.reading.specs.Answers.{gotAt}
 use Rattle.reading.proofs.Places.{read-not, read-is}
-use Rattle.reading.proofs.Lines.{before, row-begins, row-done, row-stops, row-turn, stands-next}
+use Rattle.reading.proofs.Fields.{row-fields}
+use Rattle.reading.proofs.Lines.{before, fields-begin, fields-done, fields-stop, fields-turn, stands-next}
 use Rattle.reading.proofs.read_row.Statement.{statement}
 use Rattle.reading.proofs.read_row.Tie as tie
 
 abbrev Inv-loop : tie.InvT-loop
 Inv-loop input from count room₀ base at₀ i₀ room at i =
     (i ≤ count) × (length room ≡ length room₀) × (take base room ≡ take base room₀)
-    × (readRow mostNumber count (drop from input) ≡ before (take i (drop base room)) (readRow mostNumber (count - i) (drop at input)))
+    × (readRow mostNumber count (drop from input) ≡ before (take i (drop base room)) (readFields mostNumber 0 (count - i) (drop at input)))
 
 abbrev μ-loop : tie.MeasureT-loop
 μ-loop input from count room₀ base at₀ i₀ room at i = count - i
 
 loop-holds : tie.Need-loop-holds Inv-loop μ-loop
-loop-holds c = (omega arith, refl, refl, row-begins mostNumber _ _)
+loop-holds c = (omega arith, refl, refl, row-fields mostNumber _ _ ∙ fields-begin mostNumber 0 _ _)
 
 sub-end-of : tie.Need-sub-end-of Inv-loop μ-loop
 sub-end-of c = omega arith
@@ -41,10 +44,10 @@ same-length : tie.Need-same-length Inv-loop μ-loop
 same-length c = c .before .before .before .before .before .loop .inv .1
 
 returns : tie.Need-returns Inv-loop μ-loop
-unfolding answeredLine
+unfolding gotAt
 returns c =
     let l = c .before .before .before .before .before in
-    (l .loop .inv .3 ∙ row-stops mostNumber _ (l .loop .i) _ _ _ (omega arith) (c .before .before .before .end-of .ensures) (read-not (c .before .before .read-field .ensures) (not-true _ (c .if1 .taken))), l .loop .inv .2)
+    (l .loop .inv .3 ∙ fields-stop mostNumber 0 _ (l .loop .i) _ _ _ (omega arith) (c .before .before .before .end-of .ensures ∙ ap endOf (sym (add-zero _))) (read-not (c .before .before .read-field .ensures) (not-true _ (c .if1 .taken))), l .loop .inv .2)
 
 cast-room : tie.Need-cast-room Inv-loop μ-loop
 cast-room c = omega (arith, c .before .before .before .read-field .ensures .within)
@@ -71,16 +74,16 @@ loop-again c =
     let room = l .loop .room in
     let a = l .before .before .before .args in
     let at-place : a .base + l .loop .i < length room = omega arith in
-    (omega arith, rw length-set (l .loop .inv .1), take-set-le (a .base) room (a .base + l .loop .i) _ (omega arith) ∙ l .loop .inv .2, l .loop .inv .3 ∙ (row-turn mostNumber _ (l .loop .i) _ _ _ (omega arith) (f .before .end-of .ensures) _ _ (read-is (f .read-field .ensures) (not-false _ (c .before .if1 .left))) ∙ rw (stands-next room (a .base) (l .loop .i) (f .read-field .result .value) at-place)))
+    (omega arith, rw length-set (l .loop .inv .1), take-set-le (a .base) room (a .base + l .loop .i) _ (omega arith) ∙ l .loop .inv .2, l .loop .inv .3 ∙ (fields-turn mostNumber 0 _ (l .loop .i) _ _ _ (omega arith) (f .before .end-of .ensures ∙ ap endOf (sym (add-zero _))) _ _ (read-is (f .read-field .ensures) (not-false _ (c .before .if1 .left))) ∙ rw (stands-next room (a .base) (l .loop .i) (f .read-field .result .value) at-place)))
 
 same-length-2 : tie.Need-same-length-2 Inv-loop μ-loop
 same-length-2 c = c .before .loop .inv .1
 
 returns-2 : tie.Need-returns-2 Inv-loop μ-loop
-unfolding answeredLine
+unfolding gotAt
 returns-2 c =
     let l = c .before in
-    (l .loop .inv .3 ∙ row-done mostNumber (l .before .before .before .args .count) (l .loop .i) (λ k. take k (drop (l .before .before .before .args .base) (l .loop .room))) _ (omega arith), l .loop .inv .2)
+    (l .loop .inv .3 ∙ fields-done mostNumber 0 (l .before .before .before .args .count) (l .loop .i) (λ k. take k (drop (l .before .before .before .args .base) (l .loop .room))) _ (omega arith), l .loop .inv .2)
 
 pub read-row-spec : {M : Type 1} → statement M
 read-row-spec =
