@@ -8,7 +8,7 @@ use lib.IntN.{ℤ, pos, _+ℤ_}
 use lib.ListN.{length}
 use mir.Syntax.{w64}
 use mir.Val.{SFits}
-use Rattle.grid.specs.Limits.{mostCoordinate}
+use Rattle.grid.specs.Limits.{mostTriangles, mostCoordinate}
 use Rattle.mesh.specs.Check.{trianglesFit, allWithin}
 use Rattle.mesh.specs.declared.Place.{Place}
 use Rattle.records.specs.declared.Shell.{Shell}
@@ -84,3 +84,7 @@ pub record MeshFits (points triangles : List ℕ) : Type 0 where
 -- the greatest product of three coordinates
 abbrev pub mostProduct : ℕ
 mostProduct = mostCoordinate * mostCoordinate * mostCoordinate
+
+-- no shell's sixfold volume is larger in size: a determinant of places is at most twice that product (`determinant-within`), and there are so many triangles at most
+abbrev pub mostVolume : ℕ
+mostVolume = 2 * mostTriangles * mostProduct

@@ -13,7 +13,7 @@ ghost use Rattle.records.specs.Record.{sixfold as sixfoldOf};
 ghost use Rattle.records.specs.Grown.{none, widened, withPoint, withTriangle, PointFits, TriangleFits, MeshFits};
 use sets::wide;
 
-mod volume;
+pub mod volume;
 
 #[repr(C)]
 pub struct Shell {

@@ -8,8 +8,17 @@ ghost use Rattle.mesh.specs.Mesh.{triangleCount, triangleAt};
 ghost use Rattle.mesh.specs.Place.{Near};
 ghost use Rattle.records.specs.Record.{diagonals as diagonalsOf, sixfold as sixfoldOf};
 ghost use Rattle.records.specs.Grown.{MeshFits, mostProduct};
+use grid::limits::MOST_COORDINATE;
+use grid::limits::MOST_TRIANGLES;
 use mesh::Place;
 use sets::wide;
+
+// The greatest product of three coordinates, and what no shell's volume is larger than in size: specs/Grown.antt has both.
+pub const MOST_PRODUCT: u64 = (MOST_COORDINATE as u64)
+    * (MOST_COORDINATE as u64)
+    * (MOST_COORDINATE as u64);
+
+pub const MOST_VOLUME: u64 = 2 * (MOST_TRIANGLES as u64) * MOST_PRODUCT;
 
 // The product of three coordinates.
 fn product(a: u32, b: u32, c: u32) -> u64
@@ -20,7 +29,7 @@ fn product(a: u32, b: u32, c: u32) -> u64
 }
 
 // Three points as rows: the products along the three diagonals that go down to the right.
-fn diagonals(a: Place, b: Place, c: Place) -> u64
+pub fn diagonals(a: Place, b: Place, c: Place) -> u64
     requires { ⌜ Near a ⌝ }
     requires { ⌜ Near b ⌝ }
     requires { ⌜ Near c ⌝ }
