@@ -1,5 +1,6 @@
--- Every row of the table holds; what document 01 says of the grid of 3×3×3 samples with the centre above; its worked example, and texts that are refused; boxes of shells.
+-- Every row of the table holds; what document 01 says of the grid of 3×3×3 samples with the centre above; its worked example, and texts that are refused; boxes of shells; texts read back.
 pub mod Figures
 pub mod Centre
 pub mod Examples
 pub mod Boxes
+pub mod ReadBack

@@ -1,0 +1,8 @@
+-- Any two outcomes of the reader are equal; the lines, read as they were written.
+pub mod OneRead
+pub mod Lines
+pub mod Rows
+pub mod Chains
+pub mod Written
+pub mod Read
+pub mod Exactly
