@@ -2,7 +2,6 @@
 ghost use mathlib.Core.Path.{_≡_};
 ghost use Prim.Native.Nat.{_+_, _*_, _<_};
 ghost use lib.ListN.{length};
-ghost use Rattle.grid.specs.Limits.{mostCoordinate};
 ghost use Rattle.laws.specs.Mesh.{triangle};
 ghost use Rattle.mesh.specs.Check.{lengthsFit, namesThree, trianglesFit, allWithin};
 ghost use Rattle.mesh.specs.Place.{placeOf};
@@ -70,7 +69,7 @@ fn names_three(a: u32, b: u32, c: u32, v: usize) -> bool
 }
 
 // Does each triangle name three different points below v?
-fn triangles_fit(triangles: &[u32], v: usize) -> bool
+pub fn triangles_fit(triangles: &[u32], v: usize) -> bool
     ensures { λ r. ⌜ r ≡ trianglesFit (now (triangles .entry)) v ⌝ }
 {
     let count = triangles.len() / 3;
@@ -86,13 +85,13 @@ fn triangles_fit(triangles: &[u32], v: usize) -> bool
     true
 }
 
-// Is each coordinate within the limit?
-fn coordinates_fit(points: &[u32]) -> bool
-    ensures { λ r. ⌜ r ≡ allWithin mostCoordinate (now (points .entry)) ⌝ }
+// Is each number within the limit?
+pub fn all_within(numbers: &[u32], most: u32) -> bool
+    ensures { λ r. ⌜ r ≡ allWithin most (now (numbers .entry)) ⌝ }
 {
     let mut i = 0;
-    while i < points.len() {
-        if points[i] > MOST_COORDINATE {
+    while i < numbers.len() {
+        if numbers[i] > most {
             return false;
         }
         i += 1;
@@ -125,7 +124,7 @@ pub fn check(points: &[u32], triangles: &[u32], marks: &[u8]) -> u32
     if !triangles_fit(triangles, v) {
         return 7;
     }
-    if !coordinates_fit(points) {
+    if !all_within(points, MOST_COORDINATE) {
         return 8;
     }
     if !marks_fit(marks) {

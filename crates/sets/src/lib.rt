@@ -17,7 +17,7 @@ pub fn wide(x: u32) -> usize
 }
 
 // Every point alone, its own root.
-fn alone(room: &mut [u32])
+pub fn alone(room: &mut [u32])
     requires { ⌜ length (now room) ≤ 2 * mostPoints ⌝ }
     ensures { λ _. ⌜ now (room .exit) ≡ listTo (length (now (room .entry))) (λ p. p) ⌝ }
 {
@@ -47,7 +47,7 @@ fn find(room: &mut [u32], point: usize) -> usize
 }
 
 // Two points in one set: the higher root goes under the lower one.
-fn join(room: &mut [u32], a: usize, b: usize)
+pub fn join(room: &mut [u32], a: usize, b: usize)
     requires { ⌜ Falling (now room) ⌝ }
     requires { ⌜ length (now room) ≤ 2 * mostPoints ⌝ }
     requires { ⌜ (a < length (now room)) × (b < length (now room)) ⌝ }

@@ -21,13 +21,13 @@ unfolding meshNumber
 returns-2 c =
     rw (sym (c .before .before .before .lengths-fit .ensures) ∙ not-false _ (c .before .before .if1 .left), sym (c .before .triangles-fit .ensures) ∙ not-true _ (c .if2 .taken))
 
-coordinates-fit-requires : tie.Need-coordinates-fit-requires
-coordinates-fit-requires c κs = search needs
+all-within-requires : tie.Need-all-within-requires
+all-within-requires c κs = search needs
 
 returns-3 : tie.Need-returns-3
 unfolding meshNumber
 returns-3 c =
-    rw (sym (c .before .before .before .before .before .lengths-fit .ensures) ∙ not-false _ (c .before .before .before .before .if1 .left), sym (c .before .before .before .triangles-fit .ensures) ∙ not-false _ (c .before .before .if2 .left), sym (c .before .coordinates-fit .ensures) ∙ not-true _ (c .if3 .taken))
+    rw (sym (c .before .before .before .before .before .lengths-fit .ensures) ∙ not-false _ (c .before .before .before .before .if1 .left), sym (c .before .before .before .triangles-fit .ensures) ∙ not-false _ (c .before .before .if2 .left), sym (c .before .all-within .ensures) ∙ not-true _ (c .if3 .taken))
 
 marks-fit-requires : tie.Need-marks-fit-requires
 marks-fit-requires c κs = search needs
@@ -35,12 +35,12 @@ marks-fit-requires c κs = search needs
 returns-4 : tie.Need-returns-4
 unfolding meshNumber
 returns-4 c =
-    rw (sym (c .before .before .before .before .before .before .before .lengths-fit .ensures) ∙ not-false _ (c .before .before .before .before .before .before .if1 .left), sym (c .before .before .before .before .before .triangles-fit .ensures) ∙ not-false _ (c .before .before .before .before .if2 .left), sym (c .before .before .before .coordinates-fit .ensures) ∙ not-false _ (c .before .before .if3 .left), sym (c .before .marks-fit .ensures) ∙ not-true _ (c .if4 .taken))
+    rw (sym (c .before .before .before .before .before .before .before .lengths-fit .ensures) ∙ not-false _ (c .before .before .before .before .before .before .if1 .left), sym (c .before .before .before .before .before .triangles-fit .ensures) ∙ not-false _ (c .before .before .before .before .if2 .left), sym (c .before .before .before .all-within .ensures) ∙ not-false _ (c .before .before .if3 .left), sym (c .before .marks-fit .ensures) ∙ not-true _ (c .if4 .taken))
 
 returns-5 : tie.Need-returns-5
 unfolding meshNumber
 returns-5 c =
-    rw (sym (c .before .before .before .before .before .before .before .lengths-fit .ensures) ∙ not-false _ (c .before .before .before .before .before .before .if1 .left), sym (c .before .before .before .before .before .triangles-fit .ensures) ∙ not-false _ (c .before .before .before .before .if2 .left), sym (c .before .before .before .coordinates-fit .ensures) ∙ not-false _ (c .before .before .if3 .left), sym (c .before .marks-fit .ensures) ∙ not-false _ (c .if4 .left))
+    rw (sym (c .before .before .before .before .before .before .before .lengths-fit .ensures) ∙ not-false _ (c .before .before .before .before .before .before .if1 .left), sym (c .before .before .before .before .before .triangles-fit .ensures) ∙ not-false _ (c .before .before .before .before .if2 .left), sym (c .before .before .before .all-within .ensures) ∙ not-false _ (c .before .before .if3 .left), sym (c .before .marks-fit .ensures) ∙ not-false _ (c .if4 .left))
 
 pub check-spec : {M : Type 1} → statement M
 check-spec =
@@ -50,7 +50,7 @@ check-spec =
     returns
     triangles-fit-requires
     returns-2
-    coordinates-fit-requires
+    all-within-requires
     returns-3
     marks-fit-requires
     returns-4

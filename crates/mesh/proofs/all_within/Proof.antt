@@ -1,4 +1,4 @@
--- `mesh::coordinates_fit` meets its contract: all that were passed are within the limit. Assumes nothing.
+-- `mesh::all_within` meets its contract: all that were passed are within the limit. Assumes nothing.
 use mathlib.Core.Path.{_≡_, sym}
 use mathlib.Core.Bool.{true}
 use Prim.Native.Nat.{_-_, _≤_}
@@ -8,16 +8,15 @@ use lib.ListN.{length, getD}
 use borrow.Author.Tests.{le-leb, lt-leb}
 use Rattle.laws.specs.Range.{allTo}
 use Rattle.laws.proofs.Tests.{all-none, all-more, all-fails, all-done}
-use Rattle.grid.specs.Limits.{mostCoordinate}
 use Rattle.mesh.specs.Check.{allWithin}
-use Rattle.mesh.proofs.coordinates_fit.Statement.{statement}
-use Rattle.mesh.proofs.coordinates_fit.Tie as tie
+use Rattle.mesh.proofs.all_within.Statement.{statement}
+use Rattle.mesh.proofs.all_within.Tie as tie
 
 abbrev Inv-loop : tie.InvT-loop
-Inv-loop points i₀ i = (i ≤ length points) × (allTo i (λ k. leb (getD points k 0) mostCoordinate) ≡ true)
+Inv-loop numbers most i₀ i = (i ≤ length numbers) × (allTo i (λ k. leb (getD numbers k 0) most) ≡ true)
 
 abbrev μ-loop : tie.MeasureT-loop
-μ-loop points i₀ i = length points - i
+μ-loop numbers most i₀ i = length numbers - i
 
 loop-holds : tie.Need-loop-holds Inv-loop μ-loop
 loop-holds c = (omega arith, all-none _)
@@ -45,8 +44,8 @@ returns-2 : tie.Need-returns-2 Inv-loop μ-loop
 unfolding allWithin
 returns-2 c = sym (all-done _ _ _ (omega arith) (c .before .loop .inv .1))
 
-pub coordinates-fit-spec : {M : Type 1} → statement M
-coordinates-fit-spec =
+pub all-within-spec : {M : Type 1} → statement M
+all-within-spec =
     tie.close
     (tie.spec
     Inv-loop

@@ -1,0 +1,2 @@
+-- A part of a room that was written, and the parts beside it.
+pub mod Parts

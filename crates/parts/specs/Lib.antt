@@ -1,0 +1,2 @@
+-- A part of a room.
+pub mod Part

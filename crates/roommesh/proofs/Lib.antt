@@ -1,0 +1,3 @@
+-- A mesh in the parts of a room.
+pub mod Checks
+pub mod Numbering

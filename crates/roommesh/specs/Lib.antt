@@ -1,0 +1,2 @@
+-- A mesh in the reader's work room.
+pub mod Numbered

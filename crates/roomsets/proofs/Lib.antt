@@ -1,0 +1,2 @@
+-- Sets of points in a part of a room.
+pub mod Joining
