@@ -1,0 +1,6 @@
+-- Runs of values in a room; the parts of the work room; what a column becomes, and that it holds a field of the records.
+pub mod Runs
+pub mod Rooms
+pub mod Gathering
+pub mod Fields
+pub mod Turns
