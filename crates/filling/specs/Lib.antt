@@ -1,0 +1,2 @@
+-- A granted mesh in the result rooms.
+pub mod Filled

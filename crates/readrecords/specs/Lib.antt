@@ -1,0 +1,2 @@
+-- What one `S` line leaves in a lent list of records.
+pub mod Put
