@@ -17,7 +17,7 @@
 #define THOLBRINA_H
 
 /* The version of the library, the header and the programs. A change of a call, a record or a text raises the second number. */
-#define THOLBRINA_VERSION "0.3.0"
+#define THOLBRINA_VERSION "0.4.0"
 
 #include <stddef.h>
 #include <stdint.h>
@@ -175,6 +175,91 @@ uint32_t tholbrina_shells(const uint32_t *points, size_t points_len,
                           tholbrina_shell *records, size_t records_len,
                           uint32_t *work, size_t work_len,
                           uint32_t *shell_count);
+
+/* So many bytes hold the text of any mesh of so many points, triangles and shells. With room for so many, tholbrina_write never refuses with 3. */
+static inline size_t tholbrina_text_room(size_t points, size_t triangles, size_t shells) {
+  return 35 + 57 * points + 35 * triangles + 133 * shells;
+}
+
+/* The text of a mesh with its grid edges and its shells, as the tool's --mesh and the program for small grids write it. text gets it from the front,
+ * with no byte 0 behind it, and the rest of the room stays: the room may be longer than the text. *length says how many bytes the text has, 0 after
+ * a refusal. There is no work room.
+ *
+ * A line is a letter and decimal numbers without needless zeros, parted by tabs, and a line feed ends it. In this order:
+ *   M  how many points, triangles and records there are
+ *   V  a line a point: its grid edge, its x, y and z, and its mark
+ *   T  a line a triangle: the numbers of its three points
+ *   S  a line a record: low, points, triangles, touches, volume, which has a minus sign where it is negative, least_x, greatest_x, least_y,
+ *      greatest_y, least_z, greatest_z
+ *
+ * Only lengths are checked. What the lists hold is written as it stands, a mark of 255 or a volume of -2^63 too; that the records are the mesh's own
+ * is for whoever reads the text to judge, and tholbrina_read does. Those of tholbrina_shells are.
+ *
+ * Refusals, in this order:
+ *   6  points_len is not 3V, edges_len is not V, triangles_len is not a multiple of three, V is over 250,000, T over 500,000, or records_len over
+ *      250,000
+ *   3  the text is longer than text_len */
+uint32_t tholbrina_write(const uint32_t *points, size_t points_len,
+                         const uint32_t *edges, size_t edges_len,
+                         const uint8_t *marks, size_t marks_len,
+                         const uint32_t *triangles, size_t triangles_len,
+                         const tholbrina_shell *records, size_t records_len,
+                         uint8_t *text, size_t text_len,
+                         size_t *length);
+
+/* What line 1 of a mesh's text says, so that a caller knows what rooms to lend to tholbrina_read: *points, *triangles and *shells say how many of each
+ * the text has. What follows line 1 is not looked at, and each may be any number below 2^32; no text is granted that has more than 250,000 points,
+ * 500,000 triangles, or more shells than points, so more need not be lent. There is no work room.
+ *
+ * Refusal:
+ *   15  line 1 is not M and three numbers, as said with tholbrina_read */
+uint32_t tholbrina_read_counts(const uint8_t *text, size_t text_len,
+                               uint32_t *points, uint32_t *triangles, uint32_t *shells);
+
+/* The length of the reader's work room for a text of so many points and triangles. */
+static inline size_t tholbrina_read_work(size_t points, size_t triangles) {
+  return 6 * points + 3 * triangles;
+}
+
+/* A mesh read back from its text. The reader takes exactly what tholbrina_write writes for some mesh that passes 7 to 9 below, with edge numbers that
+ * rise from point to point and with its own records, those that tholbrina_shells gives. So a mesh that is written and read is the same mesh, and a
+ * text that is read and written is the same bytes.
+ *
+ * Fills from the front, and leaves the rest of each room as it was: points, edges, marks and triangles as tholbrina_extract does, and records as
+ * tholbrina_shells does. *point_count, *triangle_count and *shell_count say how many of each there are. A room for points or triangles counts its
+ * whole threes. The shell of each point is not handed out; tholbrina_shells gives it.
+ *
+ * The form of a text is that of tholbrina_write: line 1 is M, then come as many lines V, T and S as line 1 says, in this order, and nothing follows
+ * the last. A line is its letter and its numbers, with one tab before each number, and a line feed ends it, the last line too. A number has no sign and
+ * no needless zero and is below 2^32, but for a volume: it has a minus sign if it is negative and no sign else, so that -0 is none, and is at most
+ * 4,195,092,529,152,000,000 in size, which is 1,000,000 times the cube of 16,128. Lines are counted from 1. A line that is missing, or stops before its
+ * line feed, is bad at the number that it has or would have, and bytes after the last line are bad at the number after it.
+ *
+ * *line says which line is refused with 15, and is 0 after every other answer.
+ *
+ * Refusals, in this order, with V points, T triangles and S shells as line 1 says:
+ *   15  line 1 is bad: it is not M and three numbers; *line is 1
+ *   4   V is over 250,000, or more than the least of the point, edge and mark rooms holds
+ *   5   T is over 500,000, or more than the triangles' room holds
+ *   11  S is over records_len
+ *   3   work_len is not 6V + 3T
+ *   15  a later line is bad: it has another letter or another form than is due, it is missing, bytes follow the last line, or the edge number of a
+ *       point is not above the one before; *line is the first of these
+ *   7   a triangle names a point at or above V, or one point twice
+ *   8   a coordinate is over 16,128
+ *   9   a mark is over 1
+ *   16  the S lines are not the mesh's own records: their number or any number in them differs
+ * Each of 7, 8 and 9 is looked for in the whole mesh before the next. 15 at line 1, 4, 5, 11 and 3 leave the work room as it was; every later refusal
+ * and a granted call leave it all zero. */
+uint32_t tholbrina_read(const uint8_t *text, size_t text_len,
+                        uint32_t *points, size_t points_len,
+                        uint32_t *edges, size_t edges_len,
+                        uint8_t *marks, size_t marks_len,
+                        uint32_t *triangles, size_t triangles_len,
+                        tholbrina_shell *records, size_t records_len,
+                        uint32_t *work, size_t work_len,
+                        uint64_t *line,
+                        uint32_t *point_count, uint32_t *triangle_count, uint32_t *shell_count);
 
 /* Corner areas and mean curvature of a mesh. areas, of exactly V numbers, gets each point's area in square units; vectors, of exactly 3V, the
  * x, y and z of each point's mean curvature vector, whose length is the mean curvature per unit: 256 times that is per voxel. All three are
