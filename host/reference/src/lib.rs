@@ -1,6 +1,6 @@
 //! A plain reading of document 01 ("Requirements of the build and its rules")
-//! and of requests (i) and (ii) of document 02 ("Hear the box of a void", "Flat
-//! triangles in a cube face").
+//! and of requests (i) to (iii) of document 02 ("Hear the box of a void", "Flat
+//! triangles in a cube face", "Reading a mesh back").
 //!
 //! The crate was written from these documents alone. It is a second program to
 //! compare a proved library with, bit for bit: same answers, same content of
@@ -19,7 +19,9 @@ pub mod cube;
 pub mod curvature;
 pub mod extract;
 pub mod grid;
+mod lines;
 pub mod mesh;
+pub mod read;
 pub mod shells;
 pub mod smooth;
 pub mod text;

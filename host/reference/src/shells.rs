@@ -115,6 +115,12 @@ fn filled(
     list
 }
 
+/// The record of every shell of a mesh that has passed its checks.
+pub fn records_of(points: &[u32], triangles: &[u32], marks: &[u8]) -> Vec<Shell> {
+    let (shell_of, lowest) = walk(marks.len(), triangles);
+    filled(points, triangles, marks, &shell_of, &lowest)
+}
+
 /// "A granted list gives the shell number of every point and one record per
 /// shell, in a lent list of records [..] record n is shell n; records past the
 /// last stay. Shell work room: 2V numbers."

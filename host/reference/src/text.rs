@@ -27,8 +27,9 @@
 use std::fmt::Write;
 
 use crate::extract::extract;
+use crate::lines::{fields, fields_after, number, numbers, Lines};
 use crate::mesh::threes;
-use crate::shells::{shells, Shell};
+use crate::shells::{records_of, Shell};
 use crate::smooth::smooth;
 
 /// "A refusal prints one line `R`, number, line (0 unless 12)."
@@ -58,61 +59,11 @@ struct Task {
     samples: Vec<u16>,
 }
 
-/// The input that is not read yet, and the number of lines read.
-struct Lines<'a> {
-    rest: &'a [u8],
-    read: usize,
-}
-
-impl<'a> Lines<'a> {
-    /// The next line, without its LF.
-    fn next(&mut self) -> Result<&'a [u8], Refusal> {
-        self.read += 1;
-        let end = self
-            .rest
-            .iter()
-            .position(|&byte| byte == b'\n')
-            .ok_or(Refusal::malformed(self.read))?;
-        let line = &self.rest[..end];
-        self.rest = &self.rest[end + 1..];
-        Ok(line)
-    }
-
-    /// "Nothing follows the last row."
-    fn end(&self) -> Result<(), Refusal> {
-        if self.rest.is_empty() {
-            Ok(())
-        } else {
-            Err(Refusal::malformed(self.read + 1))
-        }
-    }
-}
-
-fn fields(line: &[u8]) -> impl Iterator<Item = &[u8]> {
-    line.split(|&byte| byte == b'\t')
-}
-
-/// "Numbers have no sign and no needless zero, and are at most 65,535."
-fn number(field: &[u8]) -> Option<u16> {
-    if field.is_empty() || !field.iter().all(u8::is_ascii_digit) {
-        return None;
-    }
-    if field[0] == b'0' && field.len() > 1 {
-        return None;
-    }
-    field.iter().try_fold(0_u16, |value, digit| {
-        value.checked_mul(10)?.checked_add(u16::from(digit - b'0'))
-    })
-}
-
 /// The six numbers of line 1: "`G`, nx, ny, nz, grey value, rounds, weight".
+///
+/// "Numbers have no sign and no needless zero, and are at most 65,535."
 fn first_line(line: &[u8]) -> Option<[u16; 6]> {
-    let mut fields = fields(line);
-    if fields.next() != Some(b"G") {
-        return None;
-    }
-    let numbers: Vec<u16> = fields.map(number).collect::<Option<_>>()?;
-    numbers.try_into().ok()
+    numbers(fields_after(b'G', line)?)
 }
 
 /// One of the "rows of nx samples".
@@ -124,12 +75,8 @@ fn row(line: &[u8], nx: u32) -> Option<Vec<u16>> {
 /// "Checks: line 1 (12), sides (1), 512 samples (13), rounds and weight (10),
 /// rows (12)."
 fn read(input: &[u8]) -> Result<Task, Refusal> {
-    let mut lines = Lines {
-        rest: input,
-        read: 0,
-    };
-    let [nx, ny, nz, grey, rounds, weight] =
-        first_line(lines.next()?).ok_or(Refusal::malformed(1))?;
+    let mut lines = Lines::of(input);
+    let [nx, ny, nz, grey, rounds, weight] = lines.next(first_line).map_err(Refusal::malformed)?;
     let sides = [nx, ny, nz].map(u32::from);
     if sides.iter().any(|side| !(2..=64).contains(side)) {
         return Err(Refusal::plain(1));
@@ -144,10 +91,10 @@ fn read(input: &[u8]) -> Result<Task, Refusal> {
     // one another in the order of the grid.
     let mut samples = Vec::new();
     for _ in 0..sides[1] * sides[2] {
-        let line = lines.next()?;
-        samples.extend(row(line, sides[0]).ok_or(Refusal::malformed(lines.read))?);
+        let row = lines.next(|line| row(line, sides[0]));
+        samples.extend(row.map_err(Refusal::malformed)?);
     }
-    lines.end()?;
+    lines.end().map_err(Refusal::malformed)?;
     Ok(Task {
         sides,
         grey,
@@ -157,11 +104,37 @@ fn read(input: &[u8]) -> Result<Task, Refusal> {
     })
 }
 
-/// Extracts, smooths, lists and prints.
-///
-/// "M: points, triangles, shells. V: grid edge, smoothed x, y, z, mark. T: three
-/// points. S: the record of the smoothed mesh, in the order above."
-fn print(task: &Task) -> String {
+/// A mesh as its text tells it.
+#[derive(Clone, PartialEq, Eq, Debug, Default)]
+pub struct TextMesh {
+    /// Three coordinates of each point.
+    pub points: Vec<u32>,
+    /// The grid edge of each point.
+    pub edges: Vec<u32>,
+    /// The mark of each point.
+    pub marks: Vec<u8>,
+    /// Three points of each triangle.
+    pub triangles: Vec<u32>,
+    /// The record of each shell.
+    pub records: Vec<Shell>,
+}
+
+impl TextMesh {
+    /// A mesh that passes the checks, with the records of its shells.
+    pub fn of(points: Vec<u32>, edges: Vec<u32>, marks: Vec<u8>, triangles: Vec<u32>) -> TextMesh {
+        let records = records_of(&points, &triangles, &marks);
+        TextMesh {
+            points,
+            edges,
+            marks,
+            triangles,
+            records,
+        }
+    }
+}
+
+/// The mesh that the input asks for, not smoothed, its shells not listed.
+fn extracted(task: &Task) -> TextMesh {
     let [nx, ny, nz] = task.sides;
     // Rooms for as many points as there are grid edges, and for five triangles
     // of each cube.
@@ -185,51 +158,55 @@ fn print(task: &Task) -> String {
     );
     assert_eq!(extracted.number, 0, "a checked grid is extracted");
     let point_count = extracted.points as usize;
-    let triangle_count = extracted.triangles as usize;
     points.truncate(3 * point_count);
     edges.truncate(point_count);
     marks.truncate(point_count);
-    triangles.truncate(3 * triangle_count);
+    triangles.truncate(3 * extracted.triangles as usize);
+    TextMesh {
+        points,
+        edges,
+        marks,
+        triangles,
+        records: Vec::new(),
+    }
+}
 
+/// The mesh with its points smoothed as the input asks for, its shells listed.
+fn smoothed(task: &Task, mesh: TextMesh) -> TextMesh {
+    let (point_count, triangle_count) = (mesh.marks.len(), mesh.triangles.len() / 3);
     let mut smoothed = vec![0; 3 * point_count];
     let mut work = vec![0; 6 * triangle_count + 5 * point_count + 1];
     let number = smooth(
-        &points,
-        &triangles,
-        &marks,
+        &mesh.points,
+        &mesh.triangles,
+        &mesh.marks,
         task.rounds,
         task.weight,
         &mut smoothed,
         &mut work,
     );
     assert_eq!(number, 0, "an extracted mesh is smoothed");
+    TextMesh::of(smoothed, mesh.edges, mesh.marks, mesh.triangles)
+}
 
-    let mut numbers = vec![0; point_count];
-    let mut records = vec![Shell::default(); point_count];
-    let mut work = vec![0; 2 * point_count];
-    let listed = shells(
-        &smoothed,
-        &triangles,
-        &marks,
-        &mut numbers,
-        &mut records,
-        &mut work,
-    );
-    assert_eq!(listed.number, 0, "a smoothed mesh is listed");
-
+/// The text of a mesh: "M: points, triangles, shells. V: grid edge, smoothed x,
+/// y, z, mark. T: three points. S: the record of the smoothed mesh, in the order
+/// above."
+pub fn mesh_text(mesh: &TextMesh) -> String {
     let mut out = String::new();
-    line(
-        &mut out,
-        'M',
-        &[&point_count, &triangle_count, &listed.shells],
-    );
-    for ((edge, [x, y, z]), mark) in edges.iter().zip(threes(&smoothed)).zip(&marks) {
+    let counts = [
+        mesh.edges.len(),
+        mesh.triangles.len() / 3,
+        mesh.records.len(),
+    ];
+    line(&mut out, 'M', &[&counts[0], &counts[1], &counts[2]]);
+    for ((edge, [x, y, z]), mark) in mesh.edges.iter().zip(threes(&mesh.points)).zip(&mesh.marks) {
         line(&mut out, 'V', &[edge, &x, &y, &z, mark]);
     }
-    for [a, b, c] in threes(&triangles) {
+    for [a, b, c] in threes(&mesh.triangles) {
         line(&mut out, 'T', &[&a, &b, &c]);
     }
-    for shell in &records[..listed.shells as usize] {
+    for shell in &mesh.records {
         shell_line(&mut out, shell);
     }
     out
@@ -272,7 +249,7 @@ fn line(out: &mut String, letter: char, numbers: &[&dyn std::fmt::Display]) {
 pub fn run(input: &[u8]) -> Vec<u8> {
     let mut out = String::new();
     match read(input) {
-        Ok(task) => out = print(&task),
+        Ok(task) => out = mesh_text(&smoothed(&task, extracted(&task))),
         Err(Refusal { number, line: at }) => line(&mut out, 'R', &[&number, &at]),
     }
     out.into_bytes()

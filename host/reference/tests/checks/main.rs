@@ -5,7 +5,10 @@ mod cube;
 mod curvature;
 mod extract;
 mod mesh;
+mod read;
 mod shells;
 mod smooth;
 mod text;
+#[path = "../../../viewer/tests/tools/texts.rs"]
+mod texts;
 mod tools;

@@ -2,7 +2,8 @@
 
 use crate::smooth::smoothed;
 use crate::tools::{
-    extracted, faulty_meshes, random_grid, random_mesh, small_mesh, Grid, Mesh, Random,
+    extracted, faulty_meshes, guarded_records, random_grid, random_mesh, small_mesh, Grid, Mesh,
+    Random,
 };
 use reference::shells::{shells, Listed, Shell};
 
@@ -16,18 +17,9 @@ struct Rooms {
 impl Rooms {
     /// Rooms of these lengths, full of values that no call writes.
     fn guarded(numbers: usize, records: usize, work: usize) -> Rooms {
-        let guard = |i: u32| Shell {
-            low: 3_000_000_000 + i,
-            points: 3_100_000_000 + i,
-            triangles: 3_200_000_000 + i,
-            touches: 3_300_000_000 + i,
-            volume: i64::MIN + i64::from(i),
-            least: [3_400_000_000, 3_500_000_000, 3_600_000_000].map(|start| start + i),
-            greatest: [3_700_000_000, 3_800_000_000, 3_900_000_000].map(|start| start + i),
-        };
         Rooms {
             numbers: (0..numbers as u32).map(|i| 2_000_000_000 + i).collect(),
-            records: (0..records as u32).map(guard).collect(),
+            records: guarded_records(records),
             work: (0..work as u32).map(|i| 4_000_000_000 + i).collect(),
         }
     }

@@ -228,7 +228,7 @@ fn the_largest_number_is_taken() {
 }
 
 /// The input of a grid.
-fn written(grid: &Grid, rounds: u32, weight: u32) -> String {
+pub fn written(grid: &Grid, rounds: u32, weight: u32) -> String {
     let [nx, ny, nz] = grid.sides;
     let mut input = format!("G\t{nx}\t{ny}\t{nz}\t{}\t{rounds}\t{weight}\n", grid.grey);
     for row in grid.samples.chunks(nx as usize) {

@@ -1,6 +1,7 @@
 //! A small generator of numbers, meshes and grids.
 
 use reference::extract::extract;
+use reference::shells::Shell;
 
 /// An xorshift generator.
 pub struct Random(u64);
@@ -70,6 +71,20 @@ pub fn small_mesh() -> Mesh {
         triangles: vec![0, 2, 1, 0, 1, 3, 1, 2, 3, 2, 0, 3],
         marks: vec![0, 1, 0, 0, 0],
     }
+}
+
+/// So many records, full of values that no call writes.
+pub fn guarded_records(count: usize) -> Vec<Shell> {
+    let guard = |i: u32| Shell {
+        low: 3_000_000_000 + i,
+        points: 3_100_000_000 + i,
+        triangles: 3_200_000_000 + i,
+        touches: 3_300_000_000 + i,
+        volume: i64::MIN + i64::from(i),
+        least: [3_400_000_000, 3_500_000_000, 3_600_000_000].map(|start| start + i),
+        greatest: [3_700_000_000, 3_800_000_000, 3_900_000_000].map(|start| start + i),
+    };
+    (0..count as u32).map(guard).collect()
 }
 
 /// A grid as the extractor takes it.
