@@ -1,7 +1,9 @@
-/* From a volume to a spoken list: a block of metal with two voids, 12 samples a side, said in plain sentences. */
+/* From a volume to a spoken list: a block of metal with two voids, 12 samples a side, said in plain sentences. Then the mesh is written as a text, as
+ * it is sent to somebody, and read back. */
 #include <inttypes.h>
 #include <stdio.h>
 #include <stdlib.h>
+#include <string.h>
 #include <tholbrina.h>
 
 enum { side = 12, samples = side * side * side };
@@ -43,37 +45,107 @@ static void say(uint32_t n, const tholbrina_shell *shell) {
   printf("%s.\n", shell->touches ? ", and touches the outer face" : "");
 }
 
-int main(void) {
-  uint16_t *volume = room(samples, sizeof *volume);
+/* A mesh with its grid edges and a record a shell. */
+typedef struct {
+  uint32_t v, t, count;
+  uint32_t *points, *edges, *triangles;
+  uint8_t *marks;
+  tholbrina_shell *shells;
+} mesh;
+
+/* Rooms for so many points, triangles and shells, and one more of each: calloc may answer null where nothing is asked for. */
+static mesh rooms(size_t v, size_t t, size_t count) {
+  mesh m = {0};
+  m.points = room(3 * v + 1, sizeof *m.points), m.edges = room(v + 1, sizeof *m.edges);
+  m.marks = room(v + 1, sizeof *m.marks);
+  m.triangles = room(3 * t + 1, sizeof *m.triangles);
+  m.shells = room(count + 1, sizeof *m.shells);
+  return m;
+}
+
+static void leave(mesh m) {
+  free(m.points), free(m.edges), free(m.marks), free(m.triangles), free(m.shells);
+}
+
+/* The mesh of the volume, whose shells are not listed. */
+static mesh extracted(void) {
   size_t most_points = tholbrina_grid_points(side, side, side), most_triangles = tholbrina_grid_triangles(side, side, side);
-  uint32_t *points = room(3 * most_points, sizeof *points), *edges = room(most_points, sizeof *edges);
-  uint8_t *marks = room(most_points, sizeof *marks);
-  uint32_t *triangles = room(3 * most_triangles, sizeof *triangles);
-  size_t grid_work = tholbrina_extract_work(side, side, side);
-  uint32_t *work = room(grid_work, sizeof *work);
-  uint32_t v = 0, t = 0, count = 0;
+  size_t work_len = tholbrina_extract_work(side, side, side);
+  uint16_t *volume = room(samples, sizeof *volume);
+  uint32_t *work = room(work_len, sizeof *work);
+  mesh m = rooms(most_points, most_triangles, most_points);
   cast(volume);
-  granted("Extraction", tholbrina_extract(side, side, side, 550, volume, samples, points, 3 * most_points, edges, most_points,
-                                          marks, most_points, triangles, 3 * most_triangles, work, grid_work, &v, &t));
+  granted("Extraction", tholbrina_extract(side, side, side, 550, volume, samples, m.points, 3 * most_points, m.edges, most_points,
+                                          m.marks, most_points, m.triangles, 3 * most_triangles, work, work_len, &m.v, &m.t));
+  free(work), free(volume);
+  return m;
+}
 
-  uint32_t *smoothed = room(3 * (size_t)v + 1, sizeof *smoothed);
-  size_t smooth_work = tholbrina_smooth_work(v, t);
-  uint32_t *rounds_work = room(smooth_work, sizeof *rounds_work);
-  granted("Smoothing", tholbrina_smooth(points, 3 * (size_t)v, triangles, 3 * (size_t)t, marks, v, 2, 64, smoothed, 3 * (size_t)v,
-                                        rounds_work, smooth_work));
+static void smooth(mesh *m) {
+  size_t v = m->v, t = m->t, work_len = tholbrina_smooth_work(v, t);
+  uint32_t *smoothed = room(3 * v + 1, sizeof *smoothed), *work = room(work_len, sizeof *work);
+  granted("Smoothing", tholbrina_smooth(m->points, 3 * v, m->triangles, 3 * t, m->marks, v, 2, 64, smoothed, 3 * v, work, work_len));
+  free(work), free(m->points);
+  m->points = smoothed;
+}
 
-  uint32_t *numbers = room(v + 1, sizeof *numbers);
-  tholbrina_shell *shells = room(v + 1, sizeof *shells);
-  size_t shells_work = tholbrina_shells_work(v);
-  uint32_t *sets = room(shells_work + 1, sizeof *sets);
-  granted("The shell list", tholbrina_shells(smoothed, 3 * (size_t)v, triangles, 3 * (size_t)t, marks, v, numbers, v, shells, v, sets,
-                                             shells_work, &count));
+static void list(mesh *m) {
+  size_t v = m->v, t = m->t, work_len = tholbrina_shells_work(v);
+  uint32_t *numbers = room(v + 1, sizeof *numbers), *work = room(work_len + 1, sizeof *work);
+  granted("The shell list", tholbrina_shells(m->points, 3 * v, m->triangles, 3 * t, m->marks, v, numbers, v, m->shells, v, work, work_len,
+                                             &m->count));
+  free(work), free(numbers);
+}
 
-  printf("%" PRIu32 " shells.\n", count);
-  for (uint32_t n = 0; n < count; n++)
-    say(n, &shells[n]);
+/* The text of a mesh, and how many bytes it has. */
+static uint8_t *written(const mesh *m, size_t *length) {
+  size_t v = m->v, t = m->t, text_len = tholbrina_text_room(v, t, m->count);
+  uint8_t *text = room(text_len, sizeof *text);
+  granted("Writing", tholbrina_write(m->points, 3 * v, m->edges, v, m->marks, v, m->triangles, 3 * t, m->shells, m->count, text, text_len,
+                                     length));
+  return text;
+}
 
-  free(sets), free(shells), free(numbers), free(rounds_work), free(smoothed);
-  free(work), free(triangles), free(marks), free(edges), free(points), free(volume);
-  return 0;
+/* The mesh of a text, in rooms for what its first line says. More than the bounds allow, or more shells than points, is refused whatever is lent. */
+static mesh read_back(const uint8_t *text, size_t length) {
+  uint32_t v = 0, t = 0, count = 0;
+  uint64_t line = 0;
+  granted("Line 1", tholbrina_read_counts(text, length, &v, &t, &count));
+  v = v < tholbrina_most_points ? v : tholbrina_most_points;
+  t = t < tholbrina_most_triangles ? t : tholbrina_most_triangles;
+  count = count < v ? count : v;
+  size_t work_len = tholbrina_read_work(v, t);
+  uint32_t *work = room(work_len + 1, sizeof *work);
+  mesh m = rooms(v, t, count);
+  uint32_t number = tholbrina_read(text, length, m.points, 3 * (size_t)v, m.edges, v, m.marks, v, m.triangles, 3 * (size_t)t, m.shells, count,
+                                   work, work_len, &line, &m.v, &m.t, &m.count);
+  if (line)
+    printf("Line %" PRIu64 " of the text is not that of a mesh.\n", line);
+  granted("Reading", number);
+  free(work);
+  return m;
+}
+
+static int same(const mesh *a, const mesh *b) {
+  return a->v == b->v && a->t == b->t && a->count == b->count &&
+         !memcmp(a->points, b->points, 3 * (size_t)a->v * sizeof *a->points) && !memcmp(a->edges, b->edges, a->v * sizeof *a->edges) &&
+         !memcmp(a->marks, b->marks, a->v) && !memcmp(a->triangles, b->triangles, 3 * (size_t)a->t * sizeof *a->triangles) &&
+         !memcmp(a->shells, b->shells, a->count * sizeof *a->shells);
+}
+
+int main(void) {
+  mesh m = extracted();
+  smooth(&m);
+  list(&m);
+  printf("%" PRIu32 " shells.\n", m.count);
+  for (uint32_t n = 0; n < m.count; n++)
+    say(n, &m.shells[n]);
+
+  size_t length = 0;
+  uint8_t *text = written(&m, &length);
+  mesh again = read_back(text, length);
+  int is_same = same(&m, &again);
+  printf("The mesh has %zu bytes as a text, and is %s when it is read back.\n", length, is_same ? "the same" : "another");
+  leave(again), free(text), leave(m);
+  return !is_same;
 }

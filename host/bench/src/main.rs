@@ -1,5 +1,6 @@
 //! Times the proved library on made-up castings at 64 samples a side, beside the plain reference and, where the program that `make bench` builds
-//! for it is named, beside VTK's filters on one thread on the same volume. Every result is compared with the reference's before it is timed.
+//! for it is named, beside VTK's filters on one thread on the same volume. Every result is compared with the reference's before it is timed. The writer and
+//! the reader of a mesh's text stand beside plain loops in place of the reference.
 //!
 //! bench [--runs N] [--vtk PROGRAM]. Fewer runs are sooner done and say less. `bench peak CALL` is what this program starts to measure memory.
 
@@ -14,7 +15,8 @@ mod times;
 mod vtk;
 
 use calls::{
-    curvature::Curvature, extraction::Extraction, shells::Shells, smoothing::Smoothing, Call,
+    curvature::Curvature, extraction::Extraction, reading::Reading, shells::Shells,
+    smoothing::Smoothing, writing::Writing, Call,
 };
 
 type Failure = Box<dyn std::error::Error>;
@@ -52,6 +54,8 @@ fn peak(call: &str) -> Result<(), Failure> {
         Smoothing::NAME => memory::said::<Smoothing>(),
         Shells::NAME => memory::said::<Shells>(),
         Curvature::NAME => memory::said::<Curvature>(),
+        Writing::NAME => memory::said::<Writing>(),
+        Reading::NAME => memory::said::<Reading>(),
         _ => Err(format!("there is no call {call}").into()),
     }
 }

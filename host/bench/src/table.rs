@@ -5,8 +5,10 @@ use std::collections::BTreeMap;
 use crate::calls::{
     curvature::Curvature,
     extraction::Extraction,
+    reading::Reading,
     shells::Shells,
     smoothing::{Smoothing, ROUNDS},
+    writing::Writing,
     Call,
 };
 use crate::casting;
@@ -70,7 +72,11 @@ fn row<C: Call>(
     let mut rooms = times::compared::<C>(whole)?;
     let library = times::library(&mut rooms, whole, asked.runs);
     let reference = times::reference(&mut rooms, whole, asked.runs);
-    let vtk = beside.get(C::FILTER).map(|time| library / time);
+    let vtk = match beside.get(C::FILTER) {
+        Some(time) => format!("{:.3}", library / time),
+        None if C::FILTER.is_empty() => String::new(),
+        None => "none".to_string(),
+    };
     line(
         [&casting.voids.to_string(), C::NAME, C::UNIT],
         [
@@ -78,14 +84,14 @@ fn row<C: Call>(
             &format!("{at32:.2}"),
             &format!("{:.2}", library / C::units(whole) as f64),
             &format!("{:.3}", library / reference),
-            &vtk.map_or("none".to_string(), |part| format!("{part:.3}")),
+            &vtk,
             &format!("{:.1}", memory::peak::<C>(whole)?),
         ],
     );
     Ok(())
 }
 
-/// The four rows of a casting; answers what VTK's program said.
+/// The six rows of a casting; answers what VTK's program said.
 fn rows(casting: &Casting, asked: &Asked) -> Result<BTreeMap<String, f64>, Failure> {
     let beside = match &asked.vtk {
         Some(program) => vtk::said(program, &casting.whole.samples, asked.runs)?,
@@ -95,6 +101,8 @@ fn rows(casting: &Casting, asked: &Asked) -> Result<BTreeMap<String, f64>, Failu
     row::<Smoothing>(casting, asked, &beside)?;
     row::<Shells>(casting, asked, &beside)?;
     row::<Curvature>(casting, asked, &beside)?;
+    row::<Writing>(casting, asked, &beside)?;
+    row::<Reading>(casting, asked, &beside)?;
     Ok(beside)
 }
 
@@ -111,8 +119,9 @@ fn explain(asked: &Asked) {
         Extraction::runs(asked.runs),
         Smoothing::runs(asked.runs)
     );
-    println!("Before it is timed every result is compared with the reference's, to the last bit. Smoothing is {ROUNDS} rounds.");
-    println!("At 16, 32, 64: nanoseconds per sample or triangle, with the casting cut into blocks of 16 or 32 samples a side, and whole.");
+    println!("Before it is timed every result is compared with the reference's, to the last bit. Smoothing is {ROUNDS} rounds. Writing is the text of the mesh, and its reference a plain loop that only formats the lines.");
+    println!("Reading is that text read back, and its reference a plain loop that only splits the lines and parses the numbers.");
+    println!("At 16, 32, 64: nanoseconds per sample, triangle or byte, with the casting cut into blocks of 16 or 32 samples a side, and whole.");
     println!("Reference, VTK: the time of the whole casting as a part of the plain reference's, and of VTK's filter's on one thread.");
     println!("MB: peak memory of a process that makes the one call on the whole casting, less what it had at its start: the call's input, and its rooms in full.");
 }

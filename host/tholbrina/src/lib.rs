@@ -1,13 +1,15 @@
-//! What the command line tool does: read a volume, call the proved library, and say the list.
+//! What the command line tool does: open a volume or a mesh, call the proved library, and say the list.
 
 mod asked;
+mod opened;
 mod said;
 mod volume;
 
 use std::io::Read;
 
 use asked::Asked;
-use viewer::{Refusal, Surface};
+use opened::Opened;
+use viewer::Refusal;
 
 /// What to write to standard output, or the one sentence that says what is wrong and what to do.
 pub fn run(words: &[String], standard_input: &mut dyn Read) -> Result<String, String> {
@@ -16,12 +18,16 @@ pub fn run(words: &[String], standard_input: &mut dyn Read) -> Result<String, St
         Asked::Version => return Ok(format!("tholbrina {}\n", env!("THOLBRINA_VERSION"))),
         Asked::List(list) => list,
     };
-    let volume = volume::read(&asked, standard_input)?;
-    let raw = Surface::extract(volume.sides, volume.grey, &volume.samples).map_err(refused)?;
-    let surface = raw.smooth(volume.rounds, volume.weight).map_err(refused)?;
+    let Opened {
+        raw,
+        rounds,
+        weight,
+    } = opened::open(&asked, standard_input)?;
+    let surface = raw.smooth(rounds, weight).map_err(refused)?;
     let shells = surface.shells().map_err(refused)?;
     if asked.mesh {
-        return Ok(said::mesh(&surface, &shells));
+        let text = surface.write(&shells.records).map_err(refused)?;
+        return Ok(String::from_utf8(text).expect("the text of a mesh is plain"));
     }
     let answers = match asked.curvature {
         true => Some(surface.answers().map_err(refused)?),
@@ -30,7 +36,7 @@ pub fn run(words: &[String], standard_input: &mut dyn Read) -> Result<String, St
     Ok(said::list(&shells, answers.as_deref()))
 }
 
-/// A refusal's number and words, and what to do.
+/// The refusal of a volume, or of a call on its surface.
 fn refused(refusal: Refusal) -> String {
     let help = match refusal {
         Refusal::Sides => "cut the volume into parts of 2 to 64 samples a side",
@@ -42,9 +48,11 @@ fn refused(refusal: Refusal) -> String {
         Refusal::Line => "mend that line of the text",
         _ => "this is a fault of the tool, so report it with the volume",
     };
-    format!(
-        "Refused with number {}: {}; {help}.",
-        refusal.number(),
-        refusal.words()
-    )
+    sentence(refusal, "", help)
+}
+
+/// A refusal's number, where it was met, its words, and what to do.
+fn sentence(refusal: Refusal, at: &str, help: &str) -> String {
+    let (number, words) = (refusal.number(), refusal.words());
+    format!("Refused with number {number}{at}: {words}; {help}.")
 }

@@ -2,7 +2,7 @@
 
 use std::fmt::Write;
 
-use viewer::{Answer, Shell, Shells, Surface};
+use viewer::{Answer, Shell, Shells};
 
 /// The side of a voxel in units, in which places are told.
 const UNITS: f64 = 256.0;
@@ -125,64 +125,6 @@ pub fn list(shells: &Shells, answers: Option<&[Answer]>) -> String {
         let bend = answers.map_or(String::new(), |answers| bend(shells, answers, n));
         writeln!(text, "Shell {n} is {what}, {place}{touch}.{bend}")
             .expect("a string takes any text");
-    }
-    text
-}
-
-fn line(text: &mut String, name: char, numbers: &[&dyn std::fmt::Display]) {
-    text.push(name);
-    for number in numbers {
-        write!(text, "\t{number}").expect("a string takes any text");
-    }
-    text.push('\n');
-}
-
-fn shell_line(text: &mut String, shell: &Shell) {
-    line(
-        text,
-        'S',
-        &[
-            &shell.low,
-            &shell.points,
-            &shell.triangles,
-            &shell.touches,
-            &shell.volume,
-            &shell.least_x,
-            &shell.greatest_x,
-            &shell.least_y,
-            &shell.greatest_y,
-            &shell.least_z,
-            &shell.greatest_z,
-        ],
-    );
-}
-
-/// The mesh and its shells as lines M, V, T and S, as the program for small grids writes them.
-pub fn mesh(surface: &Surface, shells: &Shells) -> String {
-    let mut text = String::new();
-    let counts = [
-        surface.marks.len(),
-        surface.triangles.len() / 3,
-        shells.records.len(),
-    ];
-    line(&mut text, 'M', &[&counts[0], &counts[1], &counts[2]]);
-    for ((edge, place), mark) in surface
-        .edges
-        .iter()
-        .zip(surface.points.chunks_exact(3))
-        .zip(&surface.marks)
-    {
-        line(
-            &mut text,
-            'V',
-            &[edge, &place[0], &place[1], &place[2], mark],
-        );
-    }
-    for corners in surface.triangles.chunks_exact(3) {
-        line(&mut text, 'T', &[&corners[0], &corners[1], &corners[2]]);
-    }
-    for shell in &shells.records {
-        shell_line(&mut text, shell);
     }
     text
 }

@@ -1,8 +1,5 @@
-//! A volume from a file or from standard input: plain samples, or the text of a grid as the program for small grids has it, of any size.
+//! A volume out of bytes: plain samples, or the text of a grid as the program for small grids has it, of any size.
 
-use std::io::Read;
-
-use crate::asked::List;
 use crate::refused;
 use viewer::{Refusal, LEAST_SIDE, MOST_SIDE};
 
@@ -14,28 +11,6 @@ pub struct Volume {
     pub samples: Vec<u16>,
 }
 
-pub fn read(asked: &List, standard_input: &mut dyn Read) -> Result<Volume, String> {
-    let bytes = bytes(&asked.volume, standard_input)?;
-    let mut volume = match asked.plain {
-        Some((sides, grey)) => plain(sides, grey, &bytes)?,
-        None => text(&bytes)?,
-    };
-    volume.rounds = asked.rounds.unwrap_or(volume.rounds);
-    volume.weight = asked.weight.unwrap_or(volume.weight);
-    Ok(volume)
-}
-
-fn bytes(name: &str, standard_input: &mut dyn Read) -> Result<Vec<u8>, String> {
-    if name == "-" {
-        let mut bytes = Vec::new();
-        standard_input
-            .read_to_end(&mut bytes)
-            .map_err(|error| format!("Standard input cannot be read: {error}."))?;
-        return Ok(bytes);
-    }
-    std::fs::read(name).map_err(|error| format!("{name} cannot be read: {error}."))
-}
-
 /// Whether a side is one that the library refuses.
 fn too_far(sides: [u32; 3]) -> bool {
     sides
@@ -43,7 +18,7 @@ fn too_far(sides: [u32; 3]) -> bool {
         .any(|side| !(LEAST_SIDE..=MOST_SIDE).contains(side))
 }
 
-fn plain(sides: [u32; 3], grey: u16, bytes: &[u8]) -> Result<Volume, String> {
+pub fn plain(sides: [u32; 3], grey: u16, bytes: &[u8]) -> Result<Volume, String> {
     let [nx, ny, nz] = sides;
     let count = u128::from(nx) * u128::from(ny) * u128::from(nz);
     if !too_far(sides) && 2 * count != bytes.len() as u128 {
@@ -82,7 +57,7 @@ fn malformed(line: usize) -> String {
     format!("{} It is line {line}.", refused(Refusal::Line))
 }
 
-fn text(bytes: &[u8]) -> Result<Volume, String> {
+pub fn text(bytes: &[u8]) -> Result<Volume, String> {
     let text = String::from_utf8_lossy(bytes);
     let mut lines = text
         .split_inclusive('\n')

@@ -2,44 +2,10 @@
 
 #[path = "../../viewer/tests/tools/castings.rs"]
 mod castings;
+mod tools;
 
 use castings::{ellipsoid, lattice, SIDE};
-use std::io::{empty, Read};
-
-fn run_on(words: &[&str], input: &mut dyn Read) -> Result<String, String> {
-    let words: Vec<String> = words.iter().map(|word| word.to_string()).collect();
-    tholbrina::run(&words, input)
-}
-
-fn run(words: &[&str]) -> Result<String, String> {
-    run_on(words, &mut empty())
-}
-
-/// A file of plain samples that is gone when the test is done.
-struct Volume(std::path::PathBuf);
-
-impl Volume {
-    fn new(name: &str, bytes: &[u8]) -> Volume {
-        let path = std::env::temp_dir().join(format!("tholbrina-{}-{name}", std::process::id()));
-        std::fs::write(&path, bytes).expect("the folder for temporary files can be written");
-        Volume(path)
-    }
-
-    fn of(name: &str, samples: &[u16]) -> Volume {
-        let bytes: Vec<u8> = samples.iter().flat_map(|s| s.to_le_bytes()).collect();
-        Volume::new(name, &bytes)
-    }
-
-    fn path(&self) -> &str {
-        self.0.to_str().expect("a plain path")
-    }
-}
-
-impl Drop for Volume {
-    fn drop(&mut self) {
-        let _ = std::fs::remove_file(&self.0);
-    }
-}
+use tools::{run, run_on, Volume};
 
 const EXAMPLE: &str = "G\t2\t2\t2\t50\t0\t0\n100\t0\n0\t0\n0\t0\n0\t0\n";
 

@@ -69,6 +69,48 @@ mod declared {
             work_len: usize,
             shell_count: *mut u32,
         ) -> u32;
+        pub fn tholbrina_write(
+            points: *const u32,
+            points_len: usize,
+            edges: *const u32,
+            edges_len: usize,
+            marks: *const u8,
+            marks_len: usize,
+            triangles: *const u32,
+            triangles_len: usize,
+            records: *const Shell,
+            records_len: usize,
+            text: *mut u8,
+            text_len: usize,
+            length: *mut usize,
+        ) -> u32;
+        pub fn tholbrina_read_counts(
+            text: *const u8,
+            text_len: usize,
+            points: *mut u32,
+            triangles: *mut u32,
+            shells: *mut u32,
+        ) -> u32;
+        pub fn tholbrina_read(
+            text: *const u8,
+            text_len: usize,
+            points: *mut u32,
+            points_len: usize,
+            edges: *mut u32,
+            edges_len: usize,
+            marks: *mut u8,
+            marks_len: usize,
+            triangles: *mut u32,
+            triangles_len: usize,
+            records: *mut Shell,
+            records_len: usize,
+            work: *mut u32,
+            work_len: usize,
+            line: *mut u64,
+            point_count: *mut u32,
+            triangle_count: *mut u32,
+            shell_count: *mut u32,
+        ) -> u32;
         pub fn tholbrina_curvature(
             points: *const u32,
             points_len: usize,
@@ -223,6 +265,79 @@ pub fn shells(
             records.len(),
             work.as_mut_ptr(),
             work.len(),
+            shell_count,
+        )
+    }
+}
+
+pub fn write(
+    points: &[u32],
+    edges: &[u32],
+    marks: &[u8],
+    triangles: &[u32],
+    records: &[Shell],
+    text: &mut [u8],
+    length: &mut usize,
+) -> u32 {
+    // SAFETY: each slice is lent for the call with its own length, the text and its length are different places, a record is laid out as in C, and the
+    // function has no requirement.
+    unsafe {
+        declared::tholbrina_write(
+            points.as_ptr(),
+            points.len(),
+            edges.as_ptr(),
+            edges.len(),
+            marks.as_ptr(),
+            marks.len(),
+            triangles.as_ptr(),
+            triangles.len(),
+            records.as_ptr(),
+            records.len(),
+            text.as_mut_ptr(),
+            text.len(),
+            length,
+        )
+    }
+}
+
+pub fn read_counts(text: &[u8], [points, triangles, shells]: &mut [u32; 3]) -> u32 {
+    // SAFETY: the slice is lent for the call with its own length, the three numbers are different places, and the function has no requirement.
+    unsafe { declared::tholbrina_read_counts(text.as_ptr(), text.len(), points, triangles, shells) }
+}
+
+#[allow(clippy::too_many_arguments)]
+pub fn read(
+    text: &[u8],
+    points: &mut [u32],
+    edges: &mut [u32],
+    marks: &mut [u8],
+    triangles: &mut [u32],
+    records: &mut [Shell],
+    work: &mut [u32],
+    line: &mut u64,
+    [point_count, triangle_count, shell_count]: &mut [u32; 3],
+) -> u32 {
+    // SAFETY: each slice is lent for the call with its own length, the mutable ones and the four numbers are all different places, a record is laid out
+    // as in C, and the function has no requirement.
+    unsafe {
+        declared::tholbrina_read(
+            text.as_ptr(),
+            text.len(),
+            points.as_mut_ptr(),
+            points.len(),
+            edges.as_mut_ptr(),
+            edges.len(),
+            marks.as_mut_ptr(),
+            marks.len(),
+            triangles.as_mut_ptr(),
+            triangles.len(),
+            records.as_mut_ptr(),
+            records.len(),
+            work.as_mut_ptr(),
+            work.len(),
+            line,
+            point_count,
+            triangle_count,
             shell_count,
         )
     }

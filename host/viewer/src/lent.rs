@@ -33,6 +33,16 @@ pub const fn shells_work(points: usize) -> usize {
     2 * points
 }
 
+/// So many bytes hold the text of any mesh of so many points, triangles and shells.
+pub const fn text_room(points: usize, triangles: usize, shells: usize) -> usize {
+    35 + 57 * points + 35 * triangles + 133 * shells
+}
+
+/// The length of the reader's work room for a text of so many points and triangles.
+pub const fn read_work(points: usize, triangles: usize) -> usize {
+    6 * points + 3 * triangles
+}
+
 /// How many triangles a case of the cube has: 0 to 5.
 pub fn case_count(case: u8) -> u8 {
     c::case_count(case)
@@ -54,8 +64,8 @@ pub struct Extracted {
     pub triangles: u32,
 }
 
-/// The rooms of the extractor. It fills all but the last from the front, and the rest of each stays. A room for points or triangles counts its
-/// whole threes.
+/// The rooms of the extractor, and of the reader of a mesh's text, which has one more. A granted call fills all but the last from the front, and the
+/// rest of each stays. A room for points or triangles counts its whole threes.
 pub struct Rooms<'a> {
     /// Three coordinates a point, in 1/256 of a voxel.
     pub points: &'a mut [u32],
@@ -65,7 +75,7 @@ pub struct Rooms<'a> {
     pub marks: &'a mut [u8],
     /// Three point numbers a triangle.
     pub triangles: &'a mut [u32],
-    /// The work room, of exactly [`extract_work`] numbers.
+    /// The work room, of exactly [`extract_work`] numbers, or [`read_work`] for the reader.
     pub work: &'a mut [u32],
 }
 
@@ -92,7 +102,7 @@ pub fn extract(sides: [u32; 3], grey: u16, samples: &[u16], rooms: Rooms<'_>) ->
     }
 }
 
-/// A mesh as a caller hands it in, lent. V is the length of the marks. Calls on it refuse with 6, 7, 8, 9 what it must not have.
+/// A mesh as a caller hands it in, lent. V is the length of the marks. Calls on it refuse with 6, 7, 8, 9 what it must not have, and the writer with 6 alone.
 #[derive(Clone, Copy, Debug)]
 pub struct Mesh<'a> {
     /// Three coordinates a point, in 1/256 of a voxel.
@@ -189,6 +199,101 @@ pub fn shells(
         &mut shells,
     );
     Listed { number, shells }
+}
+
+/// What the writer answers: number 0 and the length of the text if granted, else the refusal's number and length 0.
+#[derive(Clone, Copy, PartialEq, Eq, Debug)]
+pub struct Written {
+    /// 0 if granted, else the refusal's number.
+    pub number: u32,
+    /// How many bytes the text has.
+    pub length: usize,
+}
+
+/// The text of a mesh, its grid edges and a record a shell, as lines M, V, T and S, to the front of `text`, of which the rest stays; a room of
+/// [`text_room`] bytes is long enough. Only lengths are checked, and what the lists hold is written as it stands. Refusals: 6, 3.
+pub fn write(mesh: Mesh<'_>, edges: &[u32], records: &[Shell], text: &mut [u8]) -> Written {
+    let mut length = 0;
+    let number = c::write(
+        mesh.points,
+        edges,
+        mesh.marks,
+        mesh.triangles,
+        records,
+        text,
+        &mut length,
+    );
+    Written { number, length }
+}
+
+/// What line 1 of a mesh's text says: number 0 and the three counts if granted, else number 15 and zero counts.
+#[derive(Clone, Copy, PartialEq, Eq, Debug)]
+pub struct Counted {
+    /// 0 if granted, else the refusal's number.
+    pub number: u32,
+    /// How many points the text has.
+    pub points: u32,
+    /// How many triangles the text has.
+    pub triangles: u32,
+    /// How many shells the text has.
+    pub shells: u32,
+}
+
+/// How many points, triangles and shells a mesh's text has by its line 1, each a number below 2^32, so that the rooms of [`read`] can be lent. What
+/// follows line 1 is not looked at. Refusal: 15.
+pub fn read_counts(text: &[u8]) -> Counted {
+    // The call sets all three, whatever it answers.
+    let mut counts = [u32::MAX; 3];
+    let number = c::read_counts(text, &mut counts);
+    let [points, triangles, shells] = counts;
+    Counted {
+        number,
+        points,
+        triangles,
+        shells,
+    }
+}
+
+/// What the reader answers: number 0 and the three counts if granted, else the refusal's number and zero counts.
+#[derive(Clone, Copy, PartialEq, Eq, Debug)]
+pub struct Read {
+    /// 0 if granted, else the refusal's number.
+    pub number: u32,
+    /// The line that is refused with 15, counted from 1; 0 with every other number.
+    pub line: u64,
+    /// How many points there are.
+    pub points: u32,
+    /// How many triangles there are.
+    pub triangles: u32,
+    /// How many shells there are.
+    pub shells: u32,
+}
+
+/// A mesh read back from its text, as [`write()`] writes it, into lent rooms: its lists to the front of `rooms`, and a record a shell to the front of
+/// `records`. It takes exactly the texts of meshes that pass 7 to 9, with rising edge numbers and their own records. Refusals: 15 for line 1, 4, 5,
+/// 11, 3, 15 for the first other line that is bad, 7, 8, 9, 16.
+pub fn read(text: &[u8], rooms: Rooms<'_>, records: &mut [Shell]) -> Read {
+    // The call sets all four, whatever it answers.
+    let (mut line, mut counts) = (u64::MAX, [u32::MAX; 3]);
+    let number = c::read(
+        text,
+        rooms.points,
+        rooms.edges,
+        rooms.marks,
+        rooms.triangles,
+        records,
+        rooms.work,
+        &mut line,
+        &mut counts,
+    );
+    let [points, triangles, shells] = counts;
+    Read {
+        number,
+        line,
+        points,
+        triangles,
+        shells,
+    }
 }
 
 /// Corner areas, one a point, and mean curvature vectors, three numbers a point, into lent rooms of exactly those lengths. Answers 0 if granted,

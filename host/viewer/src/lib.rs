@@ -8,11 +8,19 @@
 //! let mut samples = [1000; 27];
 //! samples[13] = 0;
 //! let surface = viewer::Surface::extract([3, 3, 3], 500, &samples)?;
-//! let shells = surface.smooth(1, 64)?.shells()?;
+//! let smoothed = surface.smooth(1, 64)?;
+//! let shells = smoothed.shells()?;
 //! assert_eq!(shells.records.len(), 1);
 //! let void = shells.records[0];
 //! assert!(void.volume < 0);
 //! assert_eq!((void.least_x, void.greatest_x), (160, 352));
+//! let text = smoothed.write(&shells.records)?;
+//! assert!(text.starts_with(b"M\t6\t8\t1\nV\t14\t"));
+//!
+//! let read = viewer::Surface::read(&text).unwrap();
+//! assert_eq!(read, (smoothed, shells.records));
+//! let cut = viewer::Surface::read(&text[..50]).unwrap_err();
+//! assert_eq!(cut, (viewer::Refusal::MeshLine, 4));
 //!
 //! let refusal = viewer::Surface::extract([3, 3, 65], 500, &samples).unwrap_err();
 //! assert_eq!(refusal, viewer::Refusal::Sides);

@@ -1,8 +1,8 @@
-//! The calls with their rooms owned: a grid goes in, and a surface, its shells and its answers come out. Nothing is checked here that the library
-//! checks itself.
+//! The calls with their rooms owned: a grid or the text of a mesh goes in, and a surface, its shells, its text and its answers come out. Nothing is checked
+//! here that the library checks itself.
 
-use crate::lent::{self, extract_work, shells_work, smooth_work, Mesh, Rooms, Shell};
-use crate::lent::{MOST_POINTS, MOST_SIDE, MOST_TRIANGLES};
+use crate::lent::{self, Mesh, Rooms, Shell, MOST_POINTS, MOST_SIDE, MOST_TRIANGLES};
+use crate::lent::{extract_work, read_work, shells_work, smooth_work, text_room};
 use crate::Refusal;
 
 /// A surface: its points, the grid edge and the mark of each, and its triangles.
@@ -46,26 +46,52 @@ impl Surface {
         let count = samples.len().min(MOST_SIDE.pow(3) as usize);
         let most_points = (3 * count).min(MOST_POINTS);
         let most_triangles = (5 * count).min(MOST_TRIANGLES);
-        let mut surface = Surface {
-            points: vec![0; 3 * most_points],
-            edges: vec![0; most_points],
-            marks: vec![0; most_points],
-            triangles: vec![0; 3 * most_triangles],
-        };
-        let rooms = Rooms {
-            points: &mut surface.points,
-            edges: &mut surface.edges,
-            marks: &mut surface.marks,
-            triangles: &mut surface.triangles,
-            work: &mut vec![0; extract_work(count)],
-        };
-        let found = lent::extract(sides, grey, samples, rooms);
+        let mut surface = Surface::blank(most_points, most_triangles);
+        let mut work = vec![0; extract_work(count)];
+        let found = lent::extract(sides, grey, samples, surface.rooms(&mut work));
         Refusal::check(found.number)?;
         surface.points.truncate(3 * found.points as usize);
         surface.edges.truncate(found.points as usize);
         surface.marks.truncate(found.points as usize);
         surface.triangles.truncate(3 * found.triangles as usize);
         Ok(surface)
+    }
+
+    /// The surface of a mesh's text, as [`Surface::write`] writes it, and the records of its shells. What is written again with them is the same text.
+    /// A refusal comes with the line of the text that [`Refusal::MeshLine`] speaks of, counted from 1, which is 0 with every other refusal.
+    pub fn read(text: &[u8]) -> Result<(Surface, Vec<Shell>), (Refusal, u64)> {
+        let counts = lent::read_counts(text);
+        // A text of more is refused whatever its rooms are: no mesh has more shells than points.
+        let points = (counts.points as usize).min(MOST_POINTS);
+        let triangles = (counts.triangles as usize).min(MOST_TRIANGLES);
+        let shells = (counts.shells as usize).min(MOST_POINTS);
+        let mut surface = Surface::blank(points, triangles);
+        let mut records = vec![Shell::default(); shells];
+        let mut work = vec![0; read_work(points, triangles)];
+        let found = lent::read(text, surface.rooms(&mut work), &mut records);
+        Refusal::check(found.number).map_err(|refusal| (refusal, found.line))?;
+        Ok((surface, records))
+    }
+
+    /// A surface of so many points and triangles, all 0, to be filled.
+    fn blank(points: usize, triangles: usize) -> Surface {
+        Surface {
+            points: vec![0; 3 * points],
+            edges: vec![0; points],
+            marks: vec![0; points],
+            triangles: vec![0; 3 * triangles],
+        }
+    }
+
+    /// Its lists as the rooms of a call that fills them.
+    fn rooms<'a>(&'a mut self, work: &'a mut [u32]) -> Rooms<'a> {
+        Rooms {
+            points: &mut self.points,
+            edges: &mut self.edges,
+            marks: &mut self.marks,
+            triangles: &mut self.triangles,
+            work,
+        }
     }
 
     /// The mesh, lent.
@@ -90,6 +116,17 @@ impl Surface {
     /// Its shells.
     pub fn shells(&self) -> Result<Shells, Refusal> {
         self.mesh().shells()
+    }
+
+    /// Its text with these records, one a shell, as lines M, V, T and S. What the records hold is written as it stands.
+    pub fn write(&self, records: &[Shell]) -> Result<Vec<u8>, Refusal> {
+        let (points, triangles) = self.mesh().counts();
+        let shells = records.len().min(MOST_POINTS);
+        let mut text = vec![0; text_room(points, triangles, shells)];
+        let written = lent::write(self.mesh(), &self.edges, records, &mut text);
+        Refusal::check(written.number)?;
+        text.truncate(written.length);
+        Ok(text)
     }
 
     /// The answer of each point.

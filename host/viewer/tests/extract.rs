@@ -2,17 +2,7 @@
 
 mod tools;
 
-use tools::{roomy, same, Lengths, Rooms, Seed};
-
-fn count(sides: [u32; 3]) -> usize {
-    sides.iter().map(|&side| side as usize).product()
-}
-
-fn noise(seed: &mut Seed, sides: [u32; 3], bound: u64) -> Vec<u16> {
-    (0..count(sides))
-        .map(|_| seed.below(bound) as u16)
-        .collect()
-}
+use tools::{checkerboard, count, noise, roomy, same, Lengths, Rooms, Seed};
 
 #[test]
 fn each_case_as_a_grid_of_one_cube() {
@@ -63,19 +53,6 @@ fn plateaus_at_the_grey_value_and_the_ends_of_the_range() {
             assert_eq!((found.number, found.points, found.triangles), (0, 0, 0));
         }
     }
-}
-
-fn checkerboard(sides: [u32; 3]) -> Vec<u16> {
-    let [nx, ny, _] = sides;
-    (0..count(sides) as u32)
-        .map(|s| {
-            if (s % nx + s / nx % ny + s / (nx * ny)) % 2 == 0 {
-                1000
-            } else {
-                10
-            }
-        })
-        .collect()
 }
 
 #[test]

@@ -106,3 +106,43 @@ fn a_mesh_is_refused() {
         assert_eq!(refusal, Refusal::Settings);
     }
 }
+
+/// A line of the figure's text replaced, or if there is none, added.
+fn text_with(line: usize, by: &str) -> Vec<u8> {
+    let surface = figure();
+    let text = surface.write(&surface.shells().unwrap().records).unwrap();
+    let text = String::from_utf8(text).unwrap();
+    let mut lines: Vec<&str> = text.lines().collect();
+    lines.resize(lines.len().max(line), "");
+    lines[line - 1] = by;
+    (lines.join("\n") + "\n").into_bytes()
+}
+
+#[test]
+fn a_text_is_read() {
+    let (surface, records) = (figure(), figure().shells().unwrap().records);
+    let text = surface.write(&records).unwrap();
+    assert_eq!(Surface::read(&text), Ok((surface, records)));
+}
+
+/// The figure's text has its points from line 2 on, its triangles from line 8 on, and its shell in line 16.
+#[test]
+fn a_text_is_refused() {
+    let line = |line, by| Surface::read(&text_with(line, by)).unwrap_err();
+    assert_eq!(Surface::read(b"").unwrap_err(), (Refusal::MeshLine, 1));
+    assert_eq!(line(1, "M 6 8 1"), (Refusal::MeshLine, 1));
+    assert_eq!(line(1, "M\t250001\t8\t1"), (Refusal::Points, 0));
+    assert_eq!(line(1, "M\t6\t500001\t1"), (Refusal::Triangles, 0));
+    assert_eq!(line(1, "M\t6\t8\t250001"), (Refusal::Records, 0));
+    assert_eq!(line(1, "M\t6\t9\t1"), (Refusal::MeshLine, 16));
+    assert_eq!(line(3, "V\t14\t256\t384\t256\t0"), (Refusal::MeshLine, 3));
+    assert_eq!(line(17, "S"), (Refusal::MeshLine, 17));
+    assert_eq!(line(8, "T\t0\t1\t6"), (Refusal::Corners, 0));
+    assert_eq!(
+        line(2, "V\t14\t256\t256\t16129\t0"),
+        (Refusal::Coordinate, 0)
+    );
+    assert_eq!(line(2, "V\t14\t256\t256\t128\t2"), (Refusal::Mark, 0));
+    let touching = "S\t0\t6\t8\t1\t16777216\t128\t384\t128\t384\t128\t384";
+    assert_eq!(line(16, touching), (Refusal::Shells, 0));
+}

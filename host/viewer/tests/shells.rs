@@ -3,40 +3,10 @@
 mod tools;
 
 use tools::{
-    extents, extracted, first_of, guard, made_up_triangles, smoothed, spoiled, Caller, Seed,
+    by_hand, extents, extracted, first_of, guard, held, made_up_triangles, placed, plain, shuffled,
+    smoothed, spoiled, Caller, Seed,
 };
 use viewer::Shell;
-
-/// Records that hold something before the call, a different one at each place.
-fn held(length: usize) -> Vec<Shell> {
-    (0..length as u32)
-        .map(|i| Shell {
-            low: 0xa5a5_0001 ^ i,
-            points: 0x5a5a_0003 ^ i,
-            triangles: 0xdead_0005 ^ i,
-            touches: 0xbeef_0007 ^ i,
-            volume: -0x0123_4567_89ab - i64::from(i),
-            least_x: 0xa5a5_0009 ^ i,
-            greatest_x: 0x5a5a_000b ^ i,
-            least_y: 0xdead_000d ^ i,
-            greatest_y: 0xbeef_000f ^ i,
-            least_z: 0xc3c3_0011 ^ i,
-            greatest_z: 0x3c3c_0013 ^ i,
-        })
-        .collect()
-}
-
-fn plain(shell: &Shell) -> reference::shells::Shell {
-    reference::shells::Shell {
-        low: shell.low,
-        points: shell.points,
-        triangles: shell.triangles,
-        touches: shell.touches,
-        volume: shell.volume,
-        least: [shell.least_x, shell.least_y, shell.least_z],
-        greatest: [shell.greatest_x, shell.greatest_y, shell.greatest_z],
-    }
-}
 
 /// Records after the last that is lent, which no call may write.
 const BEYOND: usize = 2;
@@ -178,21 +148,6 @@ fn castings_with_known_voids() {
     }
 }
 
-fn placed(seed: &mut Seed, count: usize, triangles: Vec<u32>) -> Caller {
-    Caller {
-        points: (0..3 * count).map(|_| seed.below(16_129) as u32).collect(),
-        triangles,
-        marks: (0..count).map(|_| (seed.below(50) == 0) as u8).collect(),
-    }
-}
-
-fn shuffled(seed: &mut Seed, mut triples: Vec<[u32; 3]>) -> Vec<u32> {
-    for i in (1..triples.len()).rev() {
-        triples.swap(i, seed.below(i as u64 + 1) as usize);
-    }
-    triples.concat()
-}
-
 /// Long chains, joined in rising, falling and shuffled order: one shell each.
 #[test]
 fn chains() {
@@ -215,21 +170,6 @@ fn chains() {
         assert_eq!((number, shells), (0, 1));
         assert!(numbers.iter().all(|&n| n == 0));
     }
-}
-
-/// Counts of points and triangles on them, with points by themselves in most.
-fn by_hand() -> Vec<(usize, Vec<u32>)> {
-    let fan = (1..=1000).flat_map(|i| [0, i, i + 1]).collect();
-    vec![
-        (3, vec![0, 1, 2]),
-        (6, vec![0, 1, 2, 1, 0, 3, 0, 1, 4, 1, 0, 5]),
-        (1002, fan),
-        (9, vec![7, 2, 4]),
-        (9, vec![8, 7, 6, 5, 4, 3, 2, 1, 0]),
-        (7, vec![6, 5, 4, 3, 2, 6]),
-        (500, vec![]),
-        (0, vec![]),
-    ]
 }
 
 #[test]

@@ -1,9 +1,11 @@
-//! The four calls that are timed, each with its rooms.
+//! The six calls that are timed, each with its rooms.
 
 pub mod curvature;
 pub mod extraction;
+pub mod reading;
 pub mod shells;
 pub mod smoothing;
+pub mod writing;
 
 use crate::subject::Subject;
 
@@ -12,7 +14,7 @@ pub trait Call: Sized {
     const NAME: &'static str;
     /// What its time is divided by.
     const UNIT: &'static str = "triangle";
-    /// The line of VTK's program to stand beside.
+    /// The line of VTK's program to stand beside, empty where no filter does the same.
     const FILTER: &'static str;
 
     /// Rooms of the lengths that a caller lends, all touched.

@@ -11,7 +11,8 @@ pub struct Shells {
     work: Vec<u32>,
 }
 
-const NONE: viewer::Shell = viewer::Shell {
+/// What a record holds before a call.
+pub const NONE: viewer::Shell = viewer::Shell {
     low: 1,
     points: 1,
     triangles: 1,

@@ -21,6 +21,32 @@ impl Seed {
     }
 }
 
+/// How many samples a grid of these sides has.
+pub fn count(sides: [u32; 3]) -> usize {
+    sides.iter().map(|&side| side as usize).product()
+}
+
+/// Samples made up below a bound.
+pub fn noise(seed: &mut Seed, sides: [u32; 3], bound: u64) -> Vec<u16> {
+    (0..count(sides))
+        .map(|_| seed.below(bound) as u16)
+        .collect()
+}
+
+/// Samples above and below in turn, along every axis.
+pub fn checkerboard(sides: [u32; 3]) -> Vec<u16> {
+    let [nx, ny, _] = sides;
+    (0..count(sides) as u32)
+        .map(|s| {
+            if (s % nx + s / nx % ny + s / (nx * ny)) % 2 == 0 {
+                1000
+            } else {
+                10
+            }
+        })
+        .collect()
+}
+
 /// The rooms of one call of the extractor, whole.
 #[derive(Clone, PartialEq, Eq, Debug)]
 pub struct Rooms {
@@ -32,7 +58,7 @@ pub struct Rooms {
 }
 
 /// The lengths of the five rooms.
-#[derive(Clone, Copy, Debug)]
+#[derive(Clone, Copy, PartialEq, Eq, Debug)]
 pub struct Lengths {
     pub points: usize,
     pub edges: usize,
@@ -63,7 +89,7 @@ impl Rooms {
 
 /// Rooms that hold everything a grid of these sides can give, with some to spare.
 pub fn roomy(sides: [u32; 3]) -> Lengths {
-    let samples: usize = sides.iter().map(|&side| side as usize).product();
+    let samples = count(sides);
     let cubes: usize = sides.iter().map(|&side| side as usize - 1).product();
     Lengths {
         points: 9 * samples + 7,
@@ -167,8 +193,7 @@ pub fn mesh_of(sides: [u32; 3], grey: u16, samples: &[u16]) -> Caller {
 
 /// The mesh of a made-up grid with samples below a bound.
 pub fn extracted(seed: &mut Seed, sides: [u32; 3], bound: u64) -> Caller {
-    let count = sides.iter().map(|&side| side as usize).product();
-    let samples: Vec<u16> = (0..count).map(|_| seed.below(bound) as u16).collect();
+    let samples = noise(seed, sides, bound);
     mesh_of(sides, (bound / 2) as u16, &samples)
 }
 
@@ -189,6 +214,38 @@ pub fn extents(shell: &viewer::Shell) -> [[u32; 2]; 3] {
     ]
 }
 
+/// Records that hold something before the call, a different one at each place.
+pub fn held(length: usize) -> Vec<viewer::Shell> {
+    (0..length as u32)
+        .map(|i| viewer::Shell {
+            low: 0xa5a5_0001 ^ i,
+            points: 0x5a5a_0003 ^ i,
+            triangles: 0xdead_0005 ^ i,
+            touches: 0xbeef_0007 ^ i,
+            volume: -0x0123_4567_89ab - i64::from(i),
+            least_x: 0xa5a5_0009 ^ i,
+            greatest_x: 0x5a5a_000b ^ i,
+            least_y: 0xdead_000d ^ i,
+            greatest_y: 0xbeef_000f ^ i,
+            least_z: 0xc3c3_0011 ^ i,
+            greatest_z: 0x3c3c_0013 ^ i,
+        })
+        .collect()
+}
+
+/// A record as the reference has it.
+pub fn plain(shell: &viewer::Shell) -> reference::shells::Shell {
+    reference::shells::Shell {
+        low: shell.low,
+        points: shell.points,
+        triangles: shell.triangles,
+        touches: shell.touches,
+        volume: shell.volume,
+        least: [shell.least_x, shell.least_y, shell.least_z],
+        greatest: [shell.greatest_x, shell.greatest_y, shell.greatest_z],
+    }
+}
+
 /// So many triangles of three different points below a count, made up.
 pub fn made_up_triangles(seed: &mut Seed, count: u64, triangles: usize) -> Vec<u32> {
     (0..triangles)
@@ -203,6 +260,38 @@ pub fn made_up_triangles(seed: &mut Seed, count: u64, triangles: usize) -> Vec<u
             [first, second, third]
         })
         .collect()
+}
+
+/// Points at made-up places, some of them marked, and these triangles.
+pub fn placed(seed: &mut Seed, count: usize, triangles: Vec<u32>) -> Caller {
+    Caller {
+        points: (0..3 * count).map(|_| seed.below(16_129) as u32).collect(),
+        triangles,
+        marks: (0..count).map(|_| (seed.below(50) == 0) as u8).collect(),
+    }
+}
+
+/// Triangles in another order.
+pub fn shuffled(seed: &mut Seed, mut triples: Vec<[u32; 3]>) -> Vec<u32> {
+    for i in (1..triples.len()).rev() {
+        triples.swap(i, seed.below(i as u64 + 1) as usize);
+    }
+    triples.concat()
+}
+
+/// Counts of points and triangles on them, with points by themselves in most.
+pub fn by_hand() -> Vec<(usize, Vec<u32>)> {
+    let fan = (1..=1000).flat_map(|i| [0, i, i + 1]).collect();
+    vec![
+        (3, vec![0, 1, 2]),
+        (6, vec![0, 1, 2, 1, 0, 3, 0, 1, 4, 1, 0, 5]),
+        (1002, fan),
+        (9, vec![7, 2, 4]),
+        (9, vec![8, 7, 6, 5, 4, 3, 2, 1, 0]),
+        (7, vec![6, 5, 4, 3, 2, 6]),
+        (500, vec![]),
+        (0, vec![]),
+    ]
 }
 
 /// The mesh with 6, 7, 8 and 9 made true where bits 0 to 3 are set.
