@@ -2,7 +2,7 @@
 use mathlib.Core.Path.{_≡_, refl, ap, sym, _∙_, subst}
 use mathlib.Core.List.{List, [], _∷_, _++_, append-assoc}
 use mathlib.Core.Bool.{true, false}
-use Prim.Native.Nat.{ℕ, _≤_}
+use Prim.Native.Nat.{ℕ, _^_, _≤_, _<_}
 use native.Mathlib.Omega.{arith}
 use lib.Dec.{leb}
 use lib.IntN.{ℤ, natAbs}
@@ -38,6 +38,11 @@ PointFits bound row = Numbers mostWord 5 row × (leb bound (edgeOf row) ≡ true
 pub point-exact : (bound : ℕ) → Exact (readPoint bound) (lettered letterV) (PointFits bound)
 unfolding readPoint lettered
 point-exact bound = if-exact (λ row. leb bound (edgeOf row)) (lettered-exact letterV (row-exact mostWord 5 (omega arith)))
+
+-- the edge number is below 2^32
+pub edge-small : (row : List ℕ) → Numbers mostWord 5 row → edgeOf row < 2 ^ 32
+edge-small [] f = omega arith
+edge-small (n ∷ row) f = let l = f .1 .0 in omega arith
 
 pub triangle-exact : Exact readTriangle (lettered letterT) (Numbers mostWord 3)
 unfolding readTriangle lettered

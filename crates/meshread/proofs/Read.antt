@@ -25,7 +25,7 @@ use Rattle.meshread.specs.Lines.{Counts, edgeOf, nextEdge, readCounts, r
 use Rattle.meshread.specs.Mesh.{Mesh, meshOf, readLinesOf}
 use Rattle.meshread.specs.Promise.{Rooms, Outcome, Lengths, lengthsOf, roomNumber, Said, refusal, mesh, withMesh, withLines, withCounts, said, granted, Reads, refused-early, others-shells, taken}
 use Rattle.meshread.specs.Own.{textOf, countsIn, Rising, Own, meshLeft}
-use Rattle.meshread.proofs.Lines.{numbersOf, counts-exact, PointFits, point-exact, triangle-exact, ShellFits, shell-exact}
+use Rattle.meshread.proofs.Lines.{numbersOf, counts-exact, PointFits, point-exact, edge-small, triangle-exact, ShellFits, shell-exact}
 use Rattle.meshread.proofs.Rows.{Wide, corners-count, text-rows}
 use Rattle.meshread.proofs.Chains.{chain-next, chain-all}
 use Rattle.meshread.proofs.OneRead.{never-said, same-mesh}
@@ -131,12 +131,8 @@ module _ (input : List ℕ) (l : Lengths) (m : Mesh) (x : Text input l m) where
   unfolding meshOf
   marks-are = ap (λ n. n .marks) (x .lines .whole)
 
-  first-small : (row : List ℕ) → Numbers mostWord 5 row → edgeOf row < 2 ^ 32
-  first-small [] f = omega arith
-  first-small (n ∷ row) f = let l = f .1 .0 in omega arith
-
   edges-below : All (λ e. e < 2 ^ 32) (m .edges)
-  edges-below = rw edges-are (all-map (λ e. e < 2 ^ 32) edgeOf vs (chain-all PointFits nextEdge (λ row. edgeOf row < 2 ^ 32) (λ bound row f. first-small row (f .0)) vs 0 (x .lines .points .chain)))
+  edges-below = rw edges-are (all-map (λ e. e < 2 ^ 32) edgeOf vs (chain-all PointFits nextEdge (λ row. edgeOf row < 2 ^ 32) (λ bound row f. edge-small row (f .0)) vs 0 (x .lines .points .chain)))
 
   edges-rise : Rising (m .edges)
   edges-rise i l =

@@ -9,3 +9,4 @@ pub mod Signs
 pub mod Texts
 pub mod Following
 pub mod Turns
+pub mod Again

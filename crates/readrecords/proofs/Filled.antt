@@ -2,7 +2,7 @@
 use mathlib.Core.Path.{_≡_, refl, ap, sym, _∙_, subst}
 use mathlib.Core.List.{List, []}
 use mathlib.Core.WellFounded.{WellFounded, InvImage·wf}
-use Prim.Native.Nat.{ℕ, zero, suc, _+_, _-_, _≤_, _<_, _^_, zero-le}
+use Prim.Native.Nat.{ℕ, _+_, _-_, _≤_, _<_, _^_, zero-le}
 use native.Mathlib.Decide.{decLt}
 use native.Mathlib.Omega.{arith}
 use lib.WfN.{Nat·lt-wfRel}
@@ -12,23 +12,14 @@ use Rattle.laws.specs.Room.{laid}
 use Rattle.laws.specs.Values.{listTo}
 use Rattle.laws.proofs.Values.{laid-none, laid-more, length-list, list-at}
 use Rattle.laws.proofs.Rooms.{length-laid}
-use Rattle.reading.specs.Reading.{Got}
-use Rattle.reading.specs.Lined.{lined, readLines}
-use Rattle.reading.proofs.Following.{lined-value}
+use Rattle.reading.specs.Lined.{readLines}
 use Rattle.records.specs.declared.Shell.{Shell}
 use Rattle.records.specs.Grown.{none}
 use Rattle.meshread.specs.Lines.{readShell}
 use Rattle.sameshells.specs.Same.{saidOf, shellsAt, LinesThere}
-use Rattle.sameshells.proofs.Compared.{Again, again-begin, again-shell, again-next, first-line}
+use Rattle.reading.proofs.Again.{lines-many}
+use Rattle.sameshells.proofs.Compared.{Again, again-begin, again-shell, again-next}
 use Rattle.readrecords.specs.Put.{Puts}
-
--- as many lines are read as were asked for
-pub lines-many : {A : Type 0} (one : ℕ → List ℕ → Got A) (next : A → ℕ) (k bound line : ℕ) (bs : List ℕ) (xs : List A) → readLines one next k bound line bs ≡ lined xs [] → length xs ≡ k
-unfolding readLines
-lines-many one next zero bound line bs xs e = rw (sym (lined-value e)) refl
-lines-many one next (suc k) bound line bs xs e =
-    let s = first-line one next k bound line bs xs e in
-    rw (s .split) (ap suc (lines-many one next k (next (s .first)) (line + 1) (s .more) (s .others) (s .then)))
 
 pub none-many : (input : List ℕ) (from : ℕ) → length (shellsAt input from 0) ≡ 0
 unfolding saidOf readLines
@@ -36,7 +27,7 @@ none-many input from = refl
 
 module _ (input : List ℕ) (from shells : ℕ) where
   pub shells-many : LinesThere input from shells → length (shellsAt input from shells) ≡ shells
-  shells-many there = lines-many (λ bound. readShell) (λ shell. 0) shells 0 0 (drop from input) (shellsAt input from shells) there
+  shells-many there = lines-many (λ bound. readShell) (λ shell. 0) shells 0 0 (drop from input) (shellsAt input from shells) [] there
 
   pub all-many : (0 < shells → LinesThere input from shells) → length (shellsAt input from shells) ≡ shells
   all-many there = go (decLt 0 shells)

@@ -10,7 +10,7 @@ use borrow.Author.Tests.{not-true, not-false}
 use Rattle.reading.proofs.Places.{got-not, got-is}
 use Rattle.meshread.specs.Lines.{edgeOf}
 use Rattle.meshform.specs.Form.{no-point, point}
-use Rattle.meshform.proofs.Bounds.{edge-small}
+use Rattle.meshform.proofs.Bounds.{read-edge-small}
 use Rattle.meshform.proofs.take_point.Statement.{statement}
 use Rattle.meshform.proofs.take_point.Tie as tie
 
@@ -96,7 +96,7 @@ array-read-t13 c = search needs
 
 -- what was read, once the line is known to be well formed
 row-small : (r : tie.After-read-point) → r .read-point .result .ok ≡ true → edgeOf (r .read-point .result .numbers) < 2 ^ 32
-row-small r ok = edge-small _ (r .read-point .result .numbers) _ _ (got-is _ _ _ _ (r .read-point .ensures .0) ok)
+row-small r ok = read-edge-small _ (r .read-point .result .numbers) _ _ (got-is _ _ _ _ (r .read-point .ensures .0) ok)
 
 cast-t29 : tie.Need-cast-t29
 cast-t29 c = omega (arith, row-small (c .before .before .before) (not-false _ (c .before .if1 .left)))
