@@ -23,12 +23,12 @@ use Rattle.columns.specs.Room.{marksAt, trianglesAt, numbersAt, pointsIn, marks
 use Rattle.roommesh.specs.Numbered.{Numberable, ShellsNumbered}
 use Rattle.meshread.specs.Lines.{edgeOf, readShell}
 use Rattle.meshread.specs.Mesh.{Mesh, meshOf}
-use Rattle.meshread.specs.Promise.{mesh, ownRecords, Numbered}
+use Rattle.meshread.specs.Promise.{mesh, ownRecords, shellsDiffer, Numbered}
 use Rattle.meshread.proofs.Lines.{ShellFits, shell-exact}
 use Rattle.meshform.specs.Form.{shellLines}
 use Rattle.sameshells.specs.Same.{saidOf, shellsAt, LinesThere, MeshLeft}
 use Rattle.judge.specs.declared.Judged.{Judged}
-use Rattle.judge.specs.Judged.{Standing, meshIn, Uncounted, JudgesSaid, others-shells, taken}
+use Rattle.judge.specs.Judged.{refusedWith, Standing, meshIn, JudgesSaid, others-shells, taken}
 
 -- what was read does not depend on the number of the first line
 any-line : (shells line other : ℕ) (bs : List ℕ) (ss : List Shell) → shellLines shells line bs ≡ lined ss [] → shellLines shells other bs ≡ lined ss []
@@ -125,17 +125,22 @@ module _ (v t shells : ℕ) (input : List ℕ) (from next : ℕ) (old : List ℕ
           ∙ ap (λ ns. listTo k (recordOf (m .points) (m .triangles) (m .marks) ns)) numbers-work
 
       -- another number of shells, or other shells: 16
-      module _ (r : Judged) (after : List ℕ) (zero : after ≡ replicate (length old) 0) (number : r .number ≡ 16) (line : r .line ≡ 0) (none : Uncounted r) where
+      module _ (r : Judged) (after : List ℕ) (zero : after ≡ replicate (length old) 0) (e : r ≡ refusedWith shellsDiffer 0) where
+        differ-with : (found : List ℕ) (k : ℕ) → Numbered m found k → (m .records ≡ ownRecords m found k → ⊥) → JudgesSaid (mesh m) input old r after
+        differ-with found k numbers differ =
+            others-shells m refl found k numbers differ (ap (λ x. x .number) e) (ap (λ x. x .line) e)
+            (record { points = ap (λ x. x .points) e; triangles = ap (λ x. x .triangles) e; shells = ap (λ x. x .shells) e }) zero
+
         pub other-count : (own ≡ shells → ⊥) → JudgesSaid (mesh m) input old r after
         unfolding meshOf
         other-count differ =
-            others-shells m refl (n .numbers) own numbered
-            (λ e. differ (sym (ap length e ∙ length-list own (recordOf (m .points) (m .triangles) (m .marks) (n .numbers))) ∙ records-long)) number line none zero
+            differ-with (n .numbers) own numbered
+            (λ q. differ (sym (ap length q ∙ length-list own (recordOf (m .points) (m .triangles) (m .marks) (n .numbers))) ∙ records-long))
 
         pub other-records : own ≡ shells → (shellsAt input next shells ≡ listTo shells (recordIn v t work) → ⊥) → JudgesSaid (mesh m) input old r after
         unfolding meshOf
         other-records same differ =
-            others-shells m refl (n .numbers) own numbered (λ e. differ (records-at ∙ e ∙ sym (own-is own) ∙ ap (λ k. listTo k (recordIn v t work)) same)) number line none zero
+            differ-with (n .numbers) own numbered (λ q. differ (records-at ∙ q ∙ sym (own-is own) ∙ ap (λ k. listTo k (recordIn v t work)) same))
 
       -- granted
       pub own-records : own ≡ shells → shellsAt input next shells ≡ listTo shells (recordIn v t work) → (after : List ℕ) → MeshLeft v t work after

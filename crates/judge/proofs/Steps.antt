@@ -18,12 +18,9 @@ use Rattle.meshread.specs.Promise.{Lengths, pointRoom, triangleRoom, roomNumber
 use Rattle.meshread.proofs.OneRead.{never-said}
 use Rattle.meshform.specs.Form.{countsFor, Forms, malformed, formed}
 use Rattle.judge.specs.declared.Judged.{Judged}
-use Rattle.judge.specs.Judged.{Standing, meshIn, JudgesSaid, refused-early, others-shells, taken, JudgesMesh}
+use Rattle.judge.specs.Judged.{refusedWith, Standing, meshIn, JudgesSaid, refused-early, others-shells, taken, JudgesMesh}
 
--- a refusal without counts
-abbrev pub refusedWith : ℕ → ℕ → Judged
-refusedWith number line = record { number = number; line = line; points = 0; triangles = 0; shells = 0; «points_at» = 0; «shells_at» = 0 }
-
+-- a refusal counts nothing
 pub refuses : (s : Said) (input before : List ℕ) (r : Judged) (after : List ℕ) (number line : ℕ) (zeroed : Bool) → r ≡ refusedWith number line → s ≡ refusal number line zeroed
     → after ≡ cond zeroed (replicate (length before) 0) before → JudgesSaid s input before r after
 refuses s input before r after number line zeroed e q z =

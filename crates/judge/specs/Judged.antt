@@ -35,6 +35,10 @@ pub record FoundAt (input : List ℕ) (m : Mesh) (r : Judged) (work : List ℕ) 
   pub marks-are : marksOn input (r .«points_at») (r .points) ≡ m .marks
   pub records-are : shellsAt input (r .«shells_at») (r .shells) ≡ m .records
 
+-- a refusal gives the number, the line and zeros
+abbrev pub refusedWith : ℕ → ℕ → Judged
+refusedWith number line = record { number = number; line = line; points = 0; triangles = 0; shells = 0; «points_at» = 0; «shells_at» = 0 }
+
 -- nothing is counted
 pub record Uncounted (r : Judged) : Type 0 where
   pub points : r .points ≡ 0

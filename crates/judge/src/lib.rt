@@ -6,9 +6,9 @@ ghost use Rattle.grid.specs.Limits.{mostPoints, mostTriangles};
 ghost use Rattle.columns.specs.Room.{workLength, pointsIn, marksIn, trianglesIn};
 ghost use Rattle.mesh.specs.Check.{meshNumber};
 ghost use Rattle.meshread.specs.Mesh.{readLinesOf};
-ghost use Rattle.meshread.specs.Promise.{roomNumber, withLines, shellsDiffer};
+ghost use Rattle.meshread.specs.Promise.{roomNumber, withLines};
 ghost use Rattle.meshform.specs.Form.{countsFor};
-ghost use Rattle.judge.specs.Judged.{Standing, JudgesShells, JudgesMesh, JudgesSaid, lengthsFor, Judges};
+ghost use Rattle.judge.specs.Judged.{refusedWith, Standing, JudgesShells, JudgesMesh, JudgesSaid, lengthsFor, Judges};
 use grid::limits::MOST_POINTS;
 use grid::limits::MOST_TRIANGLES;
 use meshform::take_lines;
@@ -34,7 +34,7 @@ pub struct Judged {
 }
 
 fn refused(number: u32, line: u64) -> Judged
-    ensures { λ r. ⌜ r ≡ record { number = number; line = line; points = 0; triangles = 0; shells = 0; «points_at» = 0; «shells_at» = 0 } ⌝ }
+    ensures { λ r. ⌜ r ≡ refusedWith number line ⌝ }
 {
     Judged {
         number,
@@ -45,6 +45,14 @@ fn refused(number: u32, line: u64) -> Judged
         points_at: 0,
         shells_at: 0,
     }
+}
+
+// A refusal that comes after 3 makes the work room zero.
+fn refused_later(number: u32, line: u64, work: &mut [u32]) -> Judged
+    ensures { λ r. ⌜ (r ≡ refusedWith number line) × (now (work .exit) ≡ replicate (length (now (work .entry))) 0) ⌝ }
+{
+    clear(work);
+    refused(number, line)
 }
 
 // The first of 4, 5, 11 and 3 that holds of line 1's numbers and the rooms, or 0.
@@ -78,14 +86,6 @@ fn room_number(
     0
 }
 
-// 16 for shells that are not the mesh's own, and the work room is made zero.
-fn other_shells(work: &mut [u32]) -> Judged
-    ensures { λ r. ⌜ (r ≡ record { number = shellsDiffer; line = 0; points = 0; triangles = 0; shells = 0; «points_at» = 0; «shells_at» = 0 }) × (now (work .exit) ≡ replicate (length (now (work .entry))) 0) ⌝ }
-{
-    clear(work);
-    refused(SHELLS_DIFFER, 0)
-}
-
 // The shells of a mesh that passed 7 to 9: they are those of the lines, or 16.
 fn judge_shells(
     input: &[u8],
@@ -101,10 +101,10 @@ fn judge_shells(
 {
     let own = number_shells(work, v, t);
     if own != shells {
-        return other_shells(work);
+        return refused_later(SHELLS_DIFFER, 0, work);
     }
     if !same_shells(input, next, shells, work, v, t) {
-        return other_shells(work);
+        return refused_later(SHELLS_DIFFER, 0, work);
     }
     Judged {
         number: 0,
@@ -132,8 +132,7 @@ fn judge_mesh(
 {
     let number = mesh_number(work, v, t);
     if number != 0 {
-        clear(work);
-        return refused(number, 0);
+        return refused_later(number, 0, work);
     }
     judge_shells(input, v, t, shells, from, next, work)
 }
@@ -152,8 +151,7 @@ fn judge_lines(
 {
     let lines = take_lines(input, from, v, t, shells, work);
     if lines.line != 0 {
-        clear(work);
-        return refused(15, lines.line);
+        return refused_later(15, lines.line, work);
     }
     judge_mesh(input, v, t, shells, from, lines.next, work)
 }

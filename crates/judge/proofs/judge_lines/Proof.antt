@@ -10,21 +10,18 @@ use Rattle.judge.proofs.judge_lines.Tie as tie
 take-lines-requires : tie.Need-take-lines-requires
 take-lines-requires c κs = search needs
 
-clear-requires : tie.Need-clear-requires
-clear-requires c κs = search needs
-
-refused-requires : tie.Need-refused-requires
-refused-requires c κs = search needs
+refused-later-requires : tie.Need-refused-later-requires
+refused-later-requires c κs = search needs
 
 same-length : tie.Need-same-length
 same-length c = search needs
 
 returns : tie.Need-returns
 returns c =
-    let s = c .before .before .before .before .before .before .before .before .before .before .before .before .before in
-    let l = c .before .before .before .before .before .before .before .before .before in
-    let k = c .before .before .before in
-    refuses _ (s .args .input .now) (s .args .work .now) (c .refused .result) (k .clear .last .0) 15 (l .take-lines .result .line) _ (c .refused .ensures) (lines-refuse (s .args .v) (s .args .t) (s .args .shells) (s .args .input .now) (s .args .from) (s .args .work .now) (s .pre .0) (s .pre .1) (s .pre .2) (s .pre .3) (l .take-lines .result .line) (l .take-lines .result .next) (l .take-lines .last .1 .1 .1 .1 .1 .0) (l .take-lines .kept .1 .1 .1 .1 .1 .0) (l .take-lines .ensures) (c .before .before .before .before .before .if1 .taken)) (k .clear .ensures ∙ ap (λ n. replicate {A = ℕ} n 0) (l .take-lines .kept .1 .1 .1 .1 .1 .0))
+    let o = c .before .before in
+    let l = c .before .before .before .before .before .before .before .before in
+    let s = l .before .before .before .before in
+    refuses _ (s .args .input .now) (s .args .work .now) (o .refused-later .result) (o .refused-later .last .1 .1 .0) 15 (l .take-lines .result .line) _ (o .refused-later .ensures .0) (lines-refuse (s .args .v) (s .args .t) (s .args .shells) (s .args .input .now) (s .args .from) (s .args .work .now) (s .pre .0) (s .pre .1) (s .pre .2) (s .pre .3) (l .take-lines .result .line) (l .take-lines .result .next) (l .take-lines .last .1 .1 .1 .1 .1 .0) (l .take-lines .kept .1 .1 .1 .1 .1 .0) (l .take-lines .ensures) (c .before .before .before .before .if1 .taken)) (o .refused-later .ensures .1 ∙ ap (λ n. replicate {A = ℕ} n 0) (l .take-lines .kept .1 .1 .1 .1 .1 .0))
 
 judge-mesh-requires : tie.Need-judge-mesh-requires
 judge-mesh-requires c κs =
@@ -47,8 +44,7 @@ judge-lines-spec =
     tie.close
     (tie.spec
     take-lines-requires
-    clear-requires
-    refused-requires
+    refused-later-requires
     same-length
     returns
     judge-mesh-requires

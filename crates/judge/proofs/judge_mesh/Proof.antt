@@ -9,21 +9,18 @@ use Rattle.judge.proofs.judge_mesh.Tie as tie
 mesh-number-requires : tie.Need-mesh-number-requires
 mesh-number-requires c κs = search needs
 
-clear-requires : tie.Need-clear-requires
-clear-requires c κs = search needs
-
-refused-requires : tie.Need-refused-requires
-refused-requires c κs = search needs
+refused-later-requires : tie.Need-refused-later-requires
+refused-later-requires c κs = search needs
 
 same-length : tie.Need-same-length
 same-length c = search needs
 
 returns : tie.Need-returns
 returns c f =
-    let s = c .before .before .before .before .before .before .before .before .before .before in
-    let n = c .before .before .before .before .before .before in
-    let k = c .before .before .before in
-    refuses _ (s .args .input .now) (s .args .work .now) (c .refused .result) (k .clear .last .0) (n .mesh-number .result) 0 _ (c .refused .ensures) (no-mesh (s .args .v) (s .args .t) (s .args .shells) (s .args .input .now) (s .args .from) (s .args .next) (s .args .work .now) f (n .mesh-number .result) (n .mesh-number .ensures) (c .before .before .before .before .before .if1 .taken)) (k .clear .ensures)
+    let o = c .before .before in
+    let n = c .before .before .before .before .before in
+    let s = n .before .before .before .before in
+    refuses _ (s .args .input .now) (s .args .work .now) (o .refused-later .result) (o .refused-later .last .1 .1 .0) (n .mesh-number .result) 0 _ (o .refused-later .ensures .0) (no-mesh (s .args .v) (s .args .t) (s .args .shells) (s .args .input .now) (s .args .from) (s .args .next) (s .args .work .now) f (n .mesh-number .result) (n .mesh-number .ensures) (c .before .before .before .before .if1 .taken)) (o .refused-later .ensures .1)
 
 judge-shells-requires : tie.Need-judge-shells-requires
 judge-shells-requires c κs = search needs
@@ -43,8 +40,7 @@ judge-mesh-spec =
     tie.close
     (tie.spec
     mesh-number-requires
-    clear-requires
-    refused-requires
+    refused-later-requires
     same-length
     returns
     judge-shells-requires

@@ -1,10 +1,8 @@
 -- `judge::judge_shells` meets its contract: the shells are numbered, counted, and held against the lines. Assumes nothing.
-use mathlib.Core.Path.{_≡_, ap, sym, _∙_, subst}
+use mathlib.Core.Path.{ap, sym, _∙_, subst}
 use mathlib.Core.Bool.{true≢false}
 use lib.ListN.{replicate}
 use borrow.Author.Tests.{not-true, not-false}
-use Rattle.judge.specs.declared.Judged.{Judged}
-use Rattle.judge.specs.Judged.{Uncounted}
 use Rattle.columns.specs.Room.{StandsIn}
 use Rattle.judge.proofs.Shells.{lines-there, numberable, stands, other-count, other-records, own-records}
 use borrow.Author.Needs.{needs}
@@ -14,29 +12,18 @@ use Rattle.judge.proofs.judge_shells.Tie as tie
 number-shells-requires : tie.Need-number-shells-requires
 number-shells-requires c κs = let s = c .before .before .before in numberable (s .args .v) (s .args .t) (s .args .shells) (s .args .input .now) (s .args .from) (s .args .next) (s .args .work .now) (s .pre .0) (s .pre .1)
 
-other-shells-requires : tie.Need-other-shells-requires
-other-shells-requires c κs = search needs
+refused-later-requires : tie.Need-refused-later-requires
+refused-later-requires c κs = search needs
 
 same-length : tie.Need-same-length
 same-length c = search needs
-
--- what 16 answers
-module _ {r : Judged} (e : r ≡ record { number = 16; line = 0; points = 0; triangles = 0; shells = 0; «points_at» = 0; «shells_at» = 0 }) where
-  told-number : r .number ≡ 16
-  told-number = ap (λ x. x .number) e
-
-  told-line : r .line ≡ 0
-  told-line = ap (λ x. x .line) e
-
-  told-none : Uncounted r
-  told-none = record { points = ap (λ x. x .points) e; triangles = ap (λ x. x .triangles) e; shells = ap (λ x. x .shells) e }
 
 returns : tie.Need-returns
 returns c f =
     let o = c .before .before in
     let n = c .before .before .before .before .before .before .before in
     let s = n .before .before .before .before in
-    other-count (s .args .v) (s .args .t) (s .args .shells) (s .args .input .now) (s .args .from) (s .args .next) (s .args .work .now) f (s .pre .1) (n .number-shells .result) (n .number-shells .last .0) (n .number-shells .ensures) (o .other-shells .result) (o .other-shells .last .0) (o .other-shells .ensures .1 ∙ ap (λ k. replicate k 0) (n .number-shells .kept .0)) (told-number (o .other-shells .ensures .0)) (told-line (o .other-shells .ensures .0)) (told-none (o .other-shells .ensures .0)) (c .before .before .before .before .if1 .taken)
+    other-count (s .args .v) (s .args .t) (s .args .shells) (s .args .input .now) (s .args .from) (s .args .next) (s .args .work .now) f (s .pre .1) (n .number-shells .result) (n .number-shells .last .0) (n .number-shells .ensures) (o .refused-later .result) (o .refused-later .last .1 .1 .0) (o .refused-later .ensures .1 ∙ ap (λ k. replicate k 0) (n .number-shells .kept .0)) (o .refused-later .ensures .0) (c .before .before .before .before .if1 .taken)
 
 same-shells-requires : tie.Need-same-shells-requires
 same-shells-requires c κs =
@@ -44,8 +31,8 @@ same-shells-requires c κs =
     let s = n .before .before .before .before in
     (lines-there (s .args .v) (s .args .t) (s .args .shells) (s .args .input .now) (s .args .from) (s .args .next) (s .args .work .now) (s .pre .0), subst (λ k. StandsIn k (s .args .v) (s .args .t) (n .number-shells .last .0)) (c .before .if1 .left) (stands (s .args .v) (s .args .t) (s .args .shells) (s .args .input .now) (s .args .from) (s .args .next) (s .args .work .now) (s .pre .0) (s .pre .1) (n .number-shells .result) (n .number-shells .last .0) (n .number-shells .ensures)))
 
-other-shells-requires-2 : tie.Need-other-shells-requires-2
-other-shells-requires-2 c κs = search needs
+refused-later-requires-2 : tie.Need-refused-later-requires-2
+refused-later-requires-2 c κs = search needs
 
 same-length-2 : tie.Need-same-length-2
 same-length-2 c = search needs
@@ -56,7 +43,7 @@ returns-2 c f =
     let e = c .before .before .before .before .before .before .before in
     let n = c .before .before .before .before .before .before .before .before .before .before .before .before in
     let s = n .before .before .before .before in
-    other-records (s .args .v) (s .args .t) (s .args .shells) (s .args .input .now) (s .args .from) (s .args .next) (s .args .work .now) f (s .pre .1) (n .number-shells .result) (n .number-shells .last .0) (n .number-shells .ensures) (o .other-shells2 .result) (o .other-shells2 .last .0) (o .other-shells2 .ensures .1 ∙ ap (λ k. replicate k 0) (e .same-shells .kept .1 .1 .1 .0 ∙ n .number-shells .kept .0)) (told-number (o .other-shells2 .ensures .0)) (told-line (o .other-shells2 .ensures .0)) (told-none (o .other-shells2 .ensures .0)) (c .before .before .before .before .before .before .before .before .before .if1 .left)
+    other-records (s .args .v) (s .args .t) (s .args .shells) (s .args .input .now) (s .args .from) (s .args .next) (s .args .work .now) f (s .pre .1) (n .number-shells .result) (n .number-shells .last .0) (n .number-shells .ensures) (o .refused-later2 .result) (o .refused-later2 .last .1 .1 .0) (o .refused-later2 .ensures .1 ∙ ap (λ k. replicate k 0) (e .same-shells .kept .1 .1 .1 .0 ∙ n .number-shells .kept .0)) (o .refused-later2 .ensures .0) (c .before .before .before .before .before .before .before .before .before .if1 .left)
     (λ q. absurd (true≢false (sym (e .same-shells .ensures .0 .so q) ∙ not-true _ (c .before .before .before .before .if2 .taken))))
 
 cast-t19 : tie.Need-cast-t19
@@ -83,11 +70,11 @@ judge-shells-spec =
     tie.close
     (tie.spec
     number-shells-requires
-    other-shells-requires
+    refused-later-requires
     same-length
     returns
     same-shells-requires
-    other-shells-requires-2
+    refused-later-requires-2
     same-length-2
     returns-2
     cast-t19

@@ -1,41 +1,22 @@
 -- `roomsets::number` meets its contract: the ranks so far, then the parents as they were. Assumes nothing.
-use mathlib.Core.Path.{_≡_, refl, ap, sym, _∙_}
+use mathlib.Core.Path.{_≡_, ap, sym, _∙_}
 use mathlib.Core.List.{List}
 use mathlib.Core.Logic.{⊎-elim}
-use Prim.Native.Nat.{ℕ, _+_, _-_, _<_, _≤_}
-use native.Mathlib.Decide.{decLt}
+use Prim.Native.Nat.{ℕ, _+_, _-_}
 use native.Mathlib.Omega.{arith}
 use borrow.Author.Needs.{needs}
-use borrow.Author.Tests.{eq-eqb, ne-eqb}
-use lib.ListN.{length, getD, set, length-set}
-use Rattle.laws.specs.Range.{sumTo, countTo, one-if}
+use lib.ListN.{length, getD}
 use Rattle.laws.specs.Room.{laid}
 use Rattle.laws.specs.Values.{listTo}
-use Rattle.laws.proofs.Keep.{count-next}
 use Rattle.laws.proofs.Rooms.{laid-rest}
-use Rattle.laws.proofs.Values.{length-list, laid-none, laid-more, laid-all, laid-at}
-use Rattle.sets.specs.Sets.{parent, Falling, isRoot, rankOf}
-use Rattle.sets.proofs.Roots.{root-fixed, root-parent}
+use Rattle.laws.proofs.Values.{length-list}
+use Rattle.sets.specs.Sets.{parent, rankOf}
+use Rattle.sets.proofs.Ranking.{Ranks, no-ranks, at-root, at-child, all-ranks}
 use Rattle.roomsets.proofs.number.Statement.{statement}
 use Rattle.roomsets.proofs.number.Tie as tie
 
-ne-lt : (a b : ℕ) → (a ≡ b → ⊥) → a ≤ b → a < b
-ne-lt a b n l = go (decLt a b)
-  where
-    go : Dec (a < b) → a < b
-    go (yes k) = k
-    go (no k) = absurd (n (omega arith))
-
-record Ranks (old room : List ℕ) (roots p : ℕ) : Type 0 where
-  long : length room ≡ length old
-  small : p ≤ length old
-  few : roots ≤ p
-  count : roots ≡ countTo p (isRoot old)
-  ranks : room ≡ laid (listTo p (rankOf old)) old
-
--- one number more, at a root and at another point
-module _ (old : List ℕ) (falls : Falling old) (room : List ℕ) (roots p : ℕ) (r : Ranks old room roots p) (in-room : p < length old) where
-  -- where no rank stands yet, the parent does
+-- where no rank stands yet, the parent does
+module _ (old room : List ℕ) (roots p : ℕ) (r : Ranks old old room roots p) where
   parent-there : getD room p 0 ≡ parent old p
   parent-there =
       let long = length-list p (rankOf old) in
@@ -43,48 +24,14 @@ module _ (old : List ℕ) (falls : Falling old) (room : List ℕ) (roots p : ℕ
       let f : length (listTo p (rankOf old)) + 0 ≡ p = omega arith in
       ap (λ xs. getD xs p 0) (r .ranks) ∙ ap (λ i. getD (laid (listTo p (rankOf old)) old) i 0) e ∙ laid-rest (listTo p (rankOf old)) old 0 0 ∙ ap (λ i. getD old i 0) f
 
-  write : (x : ℕ) → x ≡ rankOf old p → set room p x ≡ laid (listTo (p + 1) (rankOf old)) old
-  write x e = rw (e, r .ranks) (laid-more p (rankOf old) old in-room)
-
-  at-root : parent old p ≡ p → Ranks old (set room p roots) (roots + 1) (p + 1)
-  unfolding isRoot
-  at-root top =
-      record {
-        long = length-set room p roots ∙ r .long;
-        small = omega (arith, in-room);
-        few = omega (arith, r .few);
-        count = omega (arith, r .count, count-next p (isRoot old), ap one-if (eq-eqb (parent old p) p top));
-        ranks = write roots (r .count ∙ ap (λ q. countTo q (isRoot old)) (sym (root-fixed old falls p top)));
-      }
-
-  at-child : (parent old p ≡ p → ⊥) → Ranks old (set room p (getD room (parent old p) 0)) roots (p + 1)
-  unfolding isRoot
-  at-child child =
-      let below : parent old p < p = omega (arith, falls p, ne-lt (parent old p) p child (falls p)) in
-      record {
-        long = length-set room p (getD room (parent old p) 0) ∙ r .long;
-        small = omega (arith, in-room);
-        few = omega (arith, r .few);
-        count = omega (arith, r .count, count-next p (isRoot old), ap one-if (ne-eqb (parent old p) p child));
-        ranks =
-            write
-            (getD room (parent old p) 0)
-            (ap (λ xs. getD xs (parent old p) 0) (r .ranks)
-            ∙ laid-at p (parent old p) (rankOf old) old 0 below
-            ∙ ap (λ q. countTo q (isRoot old)) (root-parent old falls p));
-      }
-
 abbrev Inv-loop : tie.InvT-loop
-Inv-loop room₀ next₀ p₀ room next p = Ranks room₀ room next p
+Inv-loop room₀ next₀ p₀ room next p = Ranks room₀ room₀ room next p
 
 abbrev μ-loop : tie.MeasureT-loop
 μ-loop room₀ next₀ p₀ room next p = length room₀ - p
 
 loop-holds : tie.Need-loop-holds Inv-loop μ-loop
-unfolding countTo sumTo
-loop-holds c =
-    let old = c .before .args .room .now in
-    record { long = refl; small = omega arith; few = omega arith; count = refl; ranks = sym (laid-none (rankOf old) old) }
+loop-holds c = let old = c .before .args .room .now in no-ranks old old
 
 mul-wide : tie.Need-mul-wide Inv-loop μ-loop
 mul-wide c = omega arith
@@ -109,14 +56,14 @@ mul-room-2 c =
     let l = c .before .before .before .before in
     let old = l .before .before .args .room .now in
     let falls = l .before .before .pre .0 in
-    omega (arith, c .before .wide .ensures, parent-there old falls (l .loop .room) (l .loop .next) (l .loop .p) (l .loop .inv) (omega arith), falls (l .loop .p))
+    omega (arith, c .before .wide .ensures, parent-there old (l .loop .room) (l .loop .next) (l .loop .p) (l .loop .inv), falls (l .loop .p))
 
 slice-read-room : tie.Need-slice-read-room Inv-loop μ-loop
 slice-read-room c =
     let l = c .before .before .before .before .before in
     let old = l .before .before .args .room .now in
     let falls = l .before .before .pre .0 in
-    omega (arith, c .before .before .wide .ensures, parent-there old falls (l .loop .room) (l .loop .next) (l .loop .p) (l .loop .inv) (omega arith), falls (l .loop .p))
+    omega (arith, c .before .before .wide .ensures, parent-there old (l .loop .room) (l .loop .next) (l .loop .p) (l .loop .inv), falls (l .loop .p))
 
 mul-room-3 : tie.Need-mul-room-3 Inv-loop μ-loop
 mul-room-3 c = omega arith
@@ -136,10 +83,10 @@ loop-again c =
     let old = l .before .before .args .room .now in
     let falls = l .before .before .pre .0 in
     let e : c .before .wide .result ≡ parent old (l .loop .p) =
-    c .before .wide .ensures ∙ parent-there old falls (l .loop .room) (l .loop .next) (l .loop .p) (l .loop .inv) (omega arith) in
+    c .before .wide .ensures ∙ parent-there old (l .loop .room) (l .loop .next) (l .loop .p) (l .loop .inv) in
     ⊎-elim
-    (λ a. rw (a .1, a .2) (at-root old falls (l .loop .room) (l .loop .next) (l .loop .p) (l .loop .inv) (omega arith) (sym e ∙ a .0 .taken)))
-    (λ b. rw (b .2, b .3) (rw e (at-child old falls (l .loop .room) (l .loop .next) (l .loop .p) (l .loop .inv) (omega arith) (λ q. b .0 .left (e ∙ q)))))
+    (λ a. rw (a .1, a .2) (at-root old falls old (l .loop .room) (l .loop .next) (l .loop .p) (l .loop .inv) (omega arith) (sym e ∙ a .0 .taken)))
+    (λ b. rw (b .2, b .3) (rw e (at-child old falls old (l .loop .room) (l .loop .next) (l .loop .p) (l .loop .inv) (omega arith) (λ q. b .0 .left (e ∙ q)))))
     (c .if1 .came)
 
 same-length : tie.Need-same-length Inv-loop μ-loop
@@ -149,8 +96,7 @@ returns : tie.Need-returns Inv-loop μ-loop
 returns c =
     let l = c .before .loop in
     let old = c .before .before .before .args .room .now in
-    let end : l .p ≡ length old = omega (arith, l .inv .small, l .inv .long) in
-    l .inv .ranks ∙ laid-all (l .p) (rankOf old) old end ∙ ap (λ k. listTo k (rankOf old)) end
+    all-ranks old old (l .room) (l .next) (l .p) (l .inv) (omega (arith, l .inv .small, l .inv .long))
 
 pub number-spec : {M : Type 1} → statement M
 number-spec =

@@ -1,11 +1,11 @@
--- `viewer::tholbrina_read_counts` meets its contract: the line was read, or not. Assumes nothing.
+-- `viewertexts::tholbrina_read_counts` meets its contract: the line was read, or not. Assumes nothing.
 use mathlib.Core.Path.{ap, sym}
 use borrow.Author.Needs.{needs}
 use borrow.Author.Tests.{not-true, not-false}
 use Rattle.reading.proofs.Places.{got-not, got-is}
-use Rattle.viewer.specs.Counts.{countsOf}
-use Rattle.viewer.proofs.tholbrina_read_counts.Statement.{statement}
-use Rattle.viewer.proofs.tholbrina_read_counts.Tie as tie
+use Rattle.viewertexts.specs.Counts.{countsOf}
+use Rattle.viewertexts.proofs.tholbrina_read_counts.Statement.{statement}
+use Rattle.viewertexts.proofs.tholbrina_read_counts.Tie as tie
 
 read-counts-requires : tie.Need-read-counts-requires
 read-counts-requires c κs = search needs

@@ -1,4 +1,4 @@
--- `viewer::tholbrina_write` meets its contract: a walk of its MIR, by hand. `meshtext::write_mesh` is lent all lists and the room; its length is laid behind the lent reference, and its number is answered.
+-- `viewertexts::tholbrina_write` meets its contract: a walk of its MIR, by hand. `meshtext::write_mesh` is lent all lists and the room; its length is laid behind the lent reference, and its number is answered.
 -- Assumes nothing.
 use Rattle.walks.proofs.Walk.{_≡_, refl, ap, ℕ, _<_, _^_, List, [], _∷_, length, URA, fullShare, named, w8, w32, w64, Val, vint, vptr, SProp, ent, emp, id⊢, via, fst∗, Lft, Share, GName, Fml, ftrue, fat, flft, Memory, Routine, Heap, Calls, Loops, WpFn, Tables, Atoms, Fun, fact, givenOf, tables, tablesOf, Given, ‵, raw, _⊛_, ⋆, some, later, _$_, _∵_, !, qed, by, move, keep, drop, use1, use2, split, join, pick, rewrite, fsplit, fjoin, feqL, feqI, suffices, frame, await, done, look, init, store, forget, stop, hop, fld, from, load, of-opd, addr, and-then, no-more, assigns, land, returns, enter, alloc1, alloc0, params1, pass1, pass0, free1, free0, agg, whole, sub, look-in, FmC, fmOf, WpFn-mono, owns, Is, shows, uint-makes, u8, u32, usize, RefT, sliceVal, MutSlice, ShrSlice, Room, slice-vals, mut-slice-tells, shr-slice-tells, shr-slice-copy, only, owned, peeks, heard, nothing, onEntry, Meets, tripleOf, Contract, Triple, calls-at, ensured, lasts, entered, cited, says, Stays, stay-slice, stay-none-slice, walkOf, goes-slice, goes-none-slice, Walks, ends-at, walked, walk-meets, yes, plain}
 use Prim.Native.Nat.{_/_}
@@ -20,10 +20,10 @@ use Rattle.meshtext.proofs.write_mesh as called
 use Rattle.meshtext.proofs.write_mesh.Symbol as called-def
 use Rattle.meshtext.proofs.write_mesh.Symbol.{name as #called}
 use Rattle.meshtext.proofs.write_mesh.Met as called-thm
-use Rattle.viewer.proofs.tholbrina_write.Key.{name as #name}
-use Rattle.viewer.proofs.tholbrina_write as f
-use Rattle.viewer.proofs.tholbrina_write.Statement as stated
-use Rattle.viewer.proofs.tholbrina_write.Code as code
+use Rattle.viewertexts.proofs.tholbrina_write.Key.{name as #name}
+use Rattle.viewertexts.proofs.tholbrina_write as f
+use Rattle.viewertexts.proofs.tholbrina_write.Statement as stated
+use Rattle.viewertexts.proofs.tholbrina_write.Code as code
 
 abbrev stayed : Stays (f.ended .signature .params) (f.ended .kept)
 stayed = (stay-none-slice (0 ∷ []) tt (plain (λ _. u32)) yes, (stay-none-slice (1 ∷ []) tt (plain (λ _. u32)) yes, (stay-none-slice (2 ∷ []) tt (plain (λ _. u8)) yes, (stay-none-slice (3 ∷ []) tt (plain (λ _. u32)) yes, (stay-none-slice (4 ∷ []) tt (plain (λ _. R)) yes, (stay-slice (5 ∷ []) tt (plain (λ _. u8)), (stay-ref (6 ∷ []) tt (plain (λ _. usize)), tt)))))))

@@ -1,4 +1,4 @@
--- `viewer::tholbrina_read` meets its contract: a walk of its MIR, by hand. `reader::read_mesh` is lent all rooms; its line and counts are laid behind the lent references, and its number is answered.
+-- `viewertexts::tholbrina_read` meets its contract: a walk of its MIR, by hand. `reader::read_mesh` is lent all rooms; its line and counts are laid behind the lent references, and its number is answered.
 -- Assumes nothing.
 use Rattle.walks.proofs.Walk.{_≡_, refl, ap, ℕ, _<_, _^_, List, [], _∷_, length, URA, fullShare, named, w8, w32, w64, Val, vint, vptr, SProp, ent, emp, id⊢, via, fst∗, Lft, Share, GName, Fml, ftrue, fat, flft, Memory, Routine, Heap, Calls, Loops, WpFn, Tables, Atoms, Fun, fact, givenOf, tables, tablesOf, Given, ‵, raw, _⊛_, ⋆, some, later, _$_, _∵_, !, qed, by, move, keep, drop, use1, use2, split, join, pick, rewrite, fsplit, fjoin, feqL, feqI, suffices, frame, await, done, look, init, store, forget, stop, hop, fld, from, load, of-opd, addr, and-then, no-more, assigns, land, returns, enter, alloc1, alloc0, params1, pass1, pass0, free1, free0, agg, whole, sub, look-in, FmC, fmOf, WpFn-mono, owns, Is, shows, uint-makes, u8, u32, RefT, sliceVal, MutSlice, ShrSlice, Room, slice-vals, mut-slice-tells, shr-slice-tells, shr-slice-copy, only, owned, peeks, heard, nothing, onEntry, Meets, tripleOf, Contract, Triple, calls-at, ensured, lasts, entered, cited, says, Stays, stay-slice, stay-none-slice, walkOf, goes-slice, goes-none-slice, Walks, ends-at, walked, walk-meets, yes, plain}
 use base.Fml.{fobs, fbor}
@@ -20,10 +20,10 @@ use Rattle.reader.proofs.read_mesh as read-mesh
 use Rattle.reader.proofs.read_mesh.Symbol as read-mesh-def
 use Rattle.reader.proofs.read_mesh.Symbol.{name as #read-mesh}
 use Rattle.reader.proofs.read_mesh.Met as read-mesh-thm
-use Rattle.viewer.proofs.tholbrina_read.Key.{name as #name}
-use Rattle.viewer.proofs.tholbrina_read as f
-use Rattle.viewer.proofs.tholbrina_read.Statement as stated
-use Rattle.viewer.proofs.tholbrina_read.Code as code
+use Rattle.viewertexts.proofs.tholbrina_read.Key.{name as #name}
+use Rattle.viewertexts.proofs.tholbrina_read as f
+use Rattle.viewertexts.proofs.tholbrina_read.Statement as stated
+use Rattle.viewertexts.proofs.tholbrina_read.Code as code
 
 abbrev stayed : Stays (f.ended .signature .params) (f.ended .kept)
 stayed = (stay-none-slice (0 ∷ []) tt (plain (λ _. u8)) yes, (stay-slice (1 ∷ []) tt (plain (λ _. u32)), (stay-slice (2 ∷ []) tt (plain (λ _. u32)), (stay-slice (3 ∷ []) tt (plain (λ _. u8)), (stay-slice (4 ∷ []) tt (plain (λ _. u32)), (stay-slice (5 ∷ []) tt (plain (λ _. R)), (stay-slice (6 ∷ []) tt (plain (λ _. u32)), (stay-ref (7 ∷ []) tt (plain (λ _. u64)), (stay-ref (8 ∷ []) tt (plain (λ _. u32)), (stay-ref (9 ∷ []) tt (plain (λ _. u32)), (stay-ref (10 ∷ []) tt (plain (λ _. u32)), tt)))))))))))
