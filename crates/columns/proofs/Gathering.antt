@@ -15,7 +15,7 @@ use Rattle.laws.proofs.Keep.{length-keep}
 use Rattle.columns.specs.declared.ways.Way.{Way}
 use Rattle.columns.specs.declared.ways.Way.the-variants.{Least, Greatest, Count}
 use Rattle.columns.specs.Columns.{startBy, putBy, putAt, gatheredTo, columnTo}
-use Rattle.columns.proofs.Runs.{run-at, run-change}
+use Rattle.laws.proofs.Runs.{run-at, run-change}
 
 keep-next : (n : ℕ) (p : ℕ → Bool) → keepTo (n + 1) p ≡ keepTo n p ++ cond (p n) (n ∷ []) []
 unfolding keepTo

@@ -1,5 +1,4 @@
--- Runs of values in a room; the parts of the work room; what a column becomes, and that it holds a field of the records.
-pub mod Runs
+-- The parts of the work room; what a column becomes, and that it holds a field of the records.
 pub mod Rooms
 pub mod Gathering
 pub mod Fields

@@ -8,13 +8,13 @@ use lib.ListN.{length, getD}
 use lib.Seq.{sets, length-sets}
 use Rattle.laws.specs.Values.{listTo}
 use Rattle.laws.proofs.Values.{length-list}
-use Rattle.parts.proofs.Parts.{length-part, part-at, part-before}
+use Rattle.laws.proofs.Parts.{length-part, part-at, part-before}
 use Rattle.mesh.specs.Mesh.{triangleCount, triangleAt, trianglesOf}
 use Rattle.mesh.proofs.Passed.{Passed, passed, corners}
 use Rattle.shellnumbers.specs.Numbering.{Numbering}
 use Rattle.shelllist.proofs.Few.{no-more-than-points}
 use Rattle.columns.specs.Room.{marksAt, trianglesAt, numbersAt, columnAt, pointsIn, marksIn, trianglesIn, numbersIn, StandsIn, pointNumber, triangleNumber, recordIn}
-use Rattle.columns.proofs.Runs.{run-at}
+use Rattle.laws.proofs.Runs.{run-at}
 
 module _ (v : ℕ) (work : List ℕ) where
   -- where a coordinate and a mark stand

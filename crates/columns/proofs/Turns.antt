@@ -9,7 +9,7 @@ use lib.Seq.{sets}
 use borrow.Author.Tests.{ne-eqb}
 use Rattle.laws.specs.Values.{listTo}
 use Rattle.laws.proofs.Values.{length-list}
-use Rattle.parts.proofs.Parts.{sets-again}
+use Rattle.laws.proofs.Parts.{sets-again}
 use Rattle.mesh.proofs.Places.{near-place, within-any}
 use Rattle.columns.specs.declared.ways.Way.{Way}
 use Rattle.columns.specs.declared.ways.Way.the-variants.{Greatest, Count}

@@ -3,7 +3,7 @@ use mathlib.Core.Path.{_≡_}
 use mathlib.Core.List.{List}
 use Prim.Native.Nat.{ℕ, _+_, _*_}
 use lib.ListN.{length}
-use Rattle.parts.specs.Part.{partOf}
+use Rattle.laws.specs.Part.{partOf}
 use Rattle.mesh.specs.Mesh.{triangleAt, trianglesOf}
 use Rattle.mesh.specs.Check.{meshNumber}
 use Rattle.records.specs.declared.Shell.{Shell}

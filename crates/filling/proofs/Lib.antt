@@ -1,4 +1,3 @@
 -- The lines of the points read once more, and a list laid over the front of a room number by number.
-pub mod Front
 pub mod Again
 pub mod Reading

@@ -9,18 +9,7 @@ ghost use Rattle.filling.specs.Filled.{PointsThere, MarksFit, Fillable, 
 use judge::Judged;
 use meshrows::read_point;
 use rooms::clear;
-
-// Copies all numbers to the front of a room.
-fn copy(read: &[u32], written: &mut [u32])
-    requires { ⌜ length (now read) ≤ length (now written) ⌝ }
-    ensures { λ _. ⌜ now (written .exit) ≡ laid (now (read .entry)) (now (written .entry)) ⌝ }
-{
-    let mut i = 0;
-    while i < read.len() {
-        written[i] = read[i];
-        i += 1;
-    }
-}
+use rooms::copy;
 
 // Reads the lines of all points once more: their grid edges and marks go to the rooms. Each line is known to be well formed.
 fn fill_points(input: &[u8], from: usize, v: usize, edges: &mut [u32], marks: &mut [u8])

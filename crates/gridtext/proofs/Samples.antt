@@ -1,30 +1,18 @@
 -- Line 1 and the samples of a small grid.
-use mathlib.Core.Path.{_≡_, refl, ap, sym, _∙_}
+use mathlib.Core.Path.{_≡_, refl, ap, _∙_}
 use mathlib.Core.List.{List, [], _∷_}
 use mathlib.Core.Bool.{and-false}
 use Prim.Native.Nat.{ℕ, _+_, _-_, _≤_, _<_}
-use native.Mathlib.Numerals.{add-one}
 use native.Mathlib.Omega.{arith}
-use lib.ListN.{length, getD, take, drop, set}
-use lib.Seq.{take-suc, length-take-le, getD-take, take-at}
+use lib.ListN.{length, getD, take, drop}
+use lib.Seq.{length-take-le, getD-take, take-at}
 use borrow.Author.Tests.{eq-eqb, ne-eqb}
 use Rattle.laws.specs.Room.{laid}
-use Rattle.laws.proofs.Rooms.{laid-next}
 use Rattle.grid.specs.Limits.{mostNumber}
 use Rattle.reading.specs.Reading.{bad, got, after, readRow, GotRows, malformed, rows}
 use Rattle.reading.specs.Answers.{answeredRows}
 use Rattle.gridtext.specs.Promise.{samplesFilled}
 use Rattle.gridtext.specs.Grid.{letterG, headOf, readHead}
-
--- a copy to the front of a room, number by number
-pub copy-begins : (xs room : List ℕ) → room ≡ laid (take 0 xs) room
-unfolding laid
-copy-begins xs room = refl
-
-pub copy-next : (xs room : List ℕ) (i : ℕ) → i < length xs → i < length room → set (laid (take i xs) room) i (getD xs i 0) ≡ laid (take (i + 1) xs) room
-copy-next xs room i l m =
-    let e : length (take i xs) ≡ i = length-take-le i xs (omega arith) in
-    rw (add-one, take-suc xs i 0 l) (ap (λ k. set (laid (take i xs) room) k (getD xs i 0)) (sym e) ∙ laid-next (take i xs) room (getD xs i 0) (rw e m))
 
 -- line 1, by its first two bytes
 pub head-short : (input : List ℕ) → length input < 2 → readHead input ≡ bad

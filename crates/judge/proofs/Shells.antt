@@ -8,8 +8,8 @@ use lib.ListN.{length, getD, drop, replicate}
 use lib.Seq.{sets, length-sets}
 use Rattle.laws.specs.Values.{listTo}
 use Rattle.laws.proofs.Values.{length-list}
-use Rattle.parts.specs.Part.{partOf}
-use Rattle.parts.proofs.Parts.{length-part, part-written, part-before}
+use Rattle.laws.specs.Part.{partOf}
+use Rattle.laws.proofs.Parts.{length-part, part-written, part-before}
 use Rattle.mesh.specs.Check.{meshNumber, trianglesFit}
 use Rattle.mesh.specs.Mesh.{trianglesOf}
 use Rattle.mesh.proofs.Passed.{passed}

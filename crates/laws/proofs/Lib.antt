@@ -19,7 +19,10 @@ pub mod Digits
 pub mod Nearest
 pub mod Differences
 pub mod Sizes
+pub mod Raised
 pub mod Rooms
 pub mod Writes
+pub mod Parts
 pub mod Values
+pub mod Runs
 pub mod Sides

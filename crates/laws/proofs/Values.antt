@@ -1,6 +1,6 @@
 -- The values of a function at the numbers below n: how many, each in its place, and one more.
 use mathlib.Core.Path.{_≡_, refl, ap, sym, _∙_}
-use mathlib.Core.List.{List, [], _∷_, _++_, append-nil}
+use mathlib.Core.List.{List, [], _∷_, _++_, append-nil, flatMap}
 use Prim.Native.Nat.{ℕ, zero, suc, _+_, _<_}
 use native.Mathlib.Decide.{decLt, ℕ-discrete}
 use native.Mathlib.Omega.{arith}
@@ -9,7 +9,7 @@ use lib.Seq.{getD-at, drop-length, ext-getD, set-append-left, getD-set-same, get
 use Rattle.laws.specs.Range.{joinTo}
 use Rattle.laws.specs.Room.{laid}
 use Rattle.laws.specs.Values.{listTo}
-use Rattle.laws.proofs.Ranges.{join-next, join-cong}
+use Rattle.laws.proofs.Ranges.{join-next, join-cong, flat-join}
 use Rattle.laws.proofs.Rooms.{laid-next, laid-front}
 
 module _ {A : Type 0} where
@@ -36,6 +36,11 @@ module _ {A : Type 0} where
   pub list-cong : (n : ℕ) (f g : ℕ → A) → ((i : ℕ) → i < n → f i ≡ g i) → listTo n f ≡ listTo n g
   unfolding listTo
   list-cong n f g h = join-cong n (λ i. f i ∷ []) (λ i. g i ∷ []) (λ i l. ap (λ a. a ∷ []) (h i l))
+
+  -- each made a list of its own
+  pub flat-list : {B : Type 0} (w : A → List B) (n : ℕ) (f : ℕ → A) → flatMap w (listTo n f) ≡ joinTo n (λ i. w (f i))
+  unfolding listTo flatMap
+  flat-list w n f = flat-join w n (λ i. f i ∷ []) ∙ join-cong n _ (λ i. w (f i)) (λ i l. append-nil (w (f i)))
 
   -- the values laid over the front of a room: none, one more, and as many as the room is long
   pub laid-none : (f : ℕ → A) (room : List A) → laid (listTo 0 f) room ≡ room

@@ -5,8 +5,8 @@ use Prim.Native.Nat.{ℕ, zero, suc, _+_, _*_, _<_, _≤_}
 use native.Mathlib.Numerals.{add-one}
 use native.Mathlib.Nat.{add-zero, mul-add}
 use native.Mathlib.Omega.{arith}
-use lib.ListN.{length, getD, take, set, length-set, length-map}
-use lib.Seq.{sets, sets-eq, set-comm, take-suc, length-take-le, getD-set-same, getD-set-other}
+use lib.ListN.{length, getD, take, drop, set, length-set, length-map}
+use lib.Seq.{sets, sets-eq, set-comm, drop-set-lt, take-suc, length-take-le, getD-set-same, getD-set-other}
 use Rattle.laws.specs.Room.{laid}
 use Rattle.laws.proofs.Ranges.{flat-append, length-flat}
 
@@ -80,3 +80,14 @@ set-before room i j (x ∷ xs) v l = set-before (set room j x) i (suc j) xs v (o
 
 pub sets-below : {A : Type 0} (room : List A) (i : ℕ) (xs : List A) (v : A) → set (sets room (i + 1) xs) i v ≡ sets room i (v ∷ xs)
 sets-below room i xs v = rw add-one (set-before room i (suc i) xs v (omega arith))
+
+-- a run below another comes before it
+pub sets-comm : {A : Type 0} (room : List A) (i j : ℕ) (xs ys : List A) → i + length xs ≤ j → sets (sets room j ys) i xs ≡ sets (sets room i xs) j ys
+sets-comm room i j [] ys h = refl
+sets-comm room i j (x ∷ xs) ys h =
+    ap (λ r. sets r (suc i) xs) (set-before room i j ys x (omega arith)) ∙ sets-comm (set room i x) (suc i) j xs ys (omega arith)
+
+-- what stands behind a run stays
+pub drop-behind : {A : Type 0} (room : List A) (i : ℕ) (xs : List A) (j : ℕ) → i + length xs ≤ j → drop j (sets room i xs) ≡ drop j room
+drop-behind room i [] j h = refl
+drop-behind room i (x ∷ xs) j h = drop-behind (set room i x) (suc i) xs j (omega arith) ∙ drop-set-lt j room i x (omega arith)

@@ -8,8 +8,8 @@ use lib.Seq.{sets, length-sets}
 use Rattle.laws.specs.Threes.{threeAt}
 use Rattle.laws.proofs.Ranges.{length-flat}
 use Rattle.lines.proofs.Bytes.{byte-at}
-use Rattle.parts.specs.Part.{partOf}
-use Rattle.parts.proofs.Parts.{part-written, part-before}
+use Rattle.laws.specs.Part.{partOf}
+use Rattle.laws.proofs.Parts.{part-written, part-before}
 use Rattle.records.specs.declared.Shell.{Shell}
 use Rattle.reading.specs.Reading.{mostWord, got, bad}
 use Rattle.reading.specs.Lined.{Lined, wrong, lined, following, readLines, readEnd}

@@ -6,8 +6,8 @@ use native.Mathlib.Omega.{arith}
 use lib.ListN.{length, set, length-append}
 use lib.Seq.{sets, length-sets}
 use Rattle.laws.proofs.Writes.{sets-append, set-before}
-use Rattle.parts.specs.Part.{partOf}
-use Rattle.parts.proofs.Parts.{part-written, part-before}
+use Rattle.laws.specs.Part.{partOf}
+use Rattle.laws.proofs.Parts.{part-written, part-before}
 
 module _ (room : List ℕ) (base : ℕ) where
   -- `xs` from the front on, `ms` from the base on

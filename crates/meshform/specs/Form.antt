@@ -6,7 +6,7 @@ use Prim.Native.Nat.{ℕ, _+_, _*_}
 use lib.ListN.{getD, set, drop}
 use lib.Seq.{sets}
 use Rattle.laws.specs.Threes.{threeAt}
-use Rattle.parts.specs.Part.{partOf}
+use Rattle.laws.specs.Part.{partOf}
 use Rattle.columns.specs.Room.{marksAt, trianglesAt}
 use Rattle.records.specs.declared.Shell.{Shell}
 use Rattle.reading.specs.Reading.{bad, got}

@@ -2,7 +2,6 @@
 pub mod OneRead
 pub mod Lines
 pub mod Rows
-pub mod Chains
 pub mod Written
 pub mod Read
 pub mod Exactly

@@ -27,7 +27,7 @@ use Rattle.meshread.specs.Promise.{Rooms, Outcome, Lengths, lengthsOf, r
 use Rattle.meshread.specs.Own.{textOf, countsIn, Rising, Own, meshLeft}
 use Rattle.meshread.proofs.Lines.{numbersOf, counts-exact, PointFits, point-exact, edge-small, triangle-exact, ShellFits, shell-exact}
 use Rattle.meshread.proofs.Rows.{Wide, corners-count, text-rows}
-use Rattle.meshread.proofs.Chains.{chain-next, chain-all}
+use Rattle.reading.proofs.Chains.{chain-next, chain-all}
 use Rattle.meshread.proofs.OneRead.{never-said, same-mesh}
 
 -- the lines behind line 1 that say a mesh

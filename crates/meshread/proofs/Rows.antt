@@ -1,16 +1,17 @@
 -- A mesh and the rows of numbers in its lines: the one from the other, and the text from the rows.
 use mathlib.Core.Path.{_≡_, refl, ap, sym, _∙_}
-use mathlib.Core.List.{List, [], _∷_, _++_, map, flatMap, append-assoc, append-nil}
-use Prim.Native.Nat.{ℕ, suc, _+_, _*_, _/_, _<_}
-use native.Mathlib.Nat.{mul-comm, add-zero}
+use mathlib.Core.List.{List, [], _∷_, _++_, map, flatMap, append-assoc}
+use Prim.Native.Nat.{ℕ, _+_, _*_, _/_, _<_}
+use native.Mathlib.Nat.{add-zero}
 use native.Mathlib.Omega.{arith}
 use lib.ListN.{length, getD, length-map}
 use Rattle.laws.specs.Range.{joinTo}
 use Rattle.laws.specs.Values.{listTo}
 use Rattle.laws.specs.Threes.{threeAt}
 use Rattle.laws.specs.Sum.{All}
-use Rattle.laws.proofs.Ranges.{all-entries, join-cong, join-first, join-blocks, flat-join, map-join, length-flat}
-use Rattle.laws.proofs.Rows.{entry-at}
+use Rattle.laws.proofs.Ranges.{all-entries, join-cong, map-join, length-flat}
+use Rattle.laws.proofs.Rows.{join-flat, flat-at, join-threes}
+use Rattle.laws.proofs.Values.{flat-list}
 use Rattle.laws.proofs.Lists.{all-get, map-at}
 use Rattle.lines.specs.Line.{lettered}
 use Rattle.records.specs.declared.Shell.{Shell}
@@ -21,22 +22,6 @@ use Rattle.meshtext.specs.MeshText.{letterM, frontText, meshText}
 use Rattle.meshread.specs.Lines.{edgeOf}
 use Rattle.meshread.specs.Mesh.{Mesh, meshOf}
 use Rattle.meshread.specs.Own.{textOf}
-
--- the elements of a list, one by one
-join-flat : {A B : Type 0} (d : A) (w : A → List B) (xs : List A) → joinTo (length xs) (λ i. w (getD xs i d)) ≡ flatMap w xs
-unfolding joinTo flatMap
-join-flat d w [] = refl
-join-flat {A} {B} d w (x ∷ xs) =
-    join-first (length xs) (λ i. w (getD (x ∷ xs) i d)) ∙ ap (λ t. w x ++ t) (join-cong (length xs) (λ i. w (getD (x ∷ xs) (1 + i) d)) (λ i. w (getD xs i d)) next ∙ join-flat d w xs)
-  where
-    next : (i : ℕ) → i < length xs → w (getD (x ∷ xs) (1 + i) d) ≡ w (getD xs i d)
-    next i l = let e : 1 + i ≡ suc i = omega arith in rw e
-
--- where an element's part stands, if all are as long
-flat-at : {A B : Type 0} (d : A) (e : B) (width : ℕ) (w : A → List B) → ((a : A) → length (w a) ≡ width) → (xs : List A) (i j : ℕ) → i < length xs → j < width
-    → getD (flatMap w xs) (width * i + j) e ≡ getD (w (getD xs i d)) j e
-flat-at d e width w even xs i j l m =
-    rw (sym (join-flat d w xs), mul-comm width i) (entry-at width (λ k. w (getD xs k d)) (λ k. even (getD xs k d)) (length xs) i j e l m)
 
 -- rows of five numbers and rows of three
 abbrev pub Wide : ℕ → List (List ℕ) → Type 0
@@ -109,25 +94,13 @@ pointRows m = listTo (length (m .marks)) (pointNumbers (m .points) (m .edges) (m
 abbrev pub triangleRows : Mesh → List (List ℕ)
 triangleRows m = listTo (length (m .triangles) / 3) (triangleNumbers (m .triangles))
 
--- what a list of rows becomes, row by row
-flat-rows : {A : Type 0} (w : List ℕ → List A) (n : ℕ) (f : ℕ → List ℕ) → flatMap w (listTo n f) ≡ joinTo n (λ i. w (f i))
-unfolding listTo flatMap
-flat-rows w n f = flat-join w n (λ i. f i ∷ []) ∙ join-cong n _ (λ i. w (f i)) (λ i l. append-nil (w (f i)))
-
--- numbers in threes, three by three
-threes : (xs : List ℕ) (n : ℕ) → length xs ≡ 3 * n → joinTo n (λ i. threeAt xs (3 * i)) ≡ xs
-unfolding joinTo
-threes xs n e =
-    join-cong n (λ i. threeAt xs (3 * i)) (λ i. joinTo 3 (λ j. getD xs (3 * i + j) 0 ∷ [])) (λ i l. rw (add-zero (3 * i)))
-    ∙ sym (join-blocks 3 n (λ j. getD xs j 0 ∷ [])) ∙ all-entries xs (3 * n) (sym e)
-
 -- a mesh whose lists fit each other is that of its rows
 pub rows-mesh : (m : Mesh) → length (m .points) ≡ 3 * length (m .marks) → length (m .edges) ≡ length (m .marks) → length (m .triangles) ≡ 3 * (length (m .triangles) / 3)
     → meshOf (pointRows m) (triangleRows m) (m .records) ≡ m
 unfolding meshOf listTo
 rows-mesh m p e t =
-    let places : flatMap (λ row. threeAt row 1) (pointRows m) ≡ m .points = flat-rows (λ row. threeAt row 1) (length (m .marks)) (pointNumbers (m .points) (m .edges) (m .marks)) ∙ threes (m .points) (length (m .marks)) p in
+    let places : flatMap (λ row. threeAt row 1) (pointRows m) ≡ m .points = flat-list (λ row. threeAt row 1) (length (m .marks)) (pointNumbers (m .points) (m .edges) (m .marks)) ∙ join-threes (m .points) (length (m .marks)) p in
     let edges : map edgeOf (pointRows m) ≡ m .edges = map-join edgeOf (length (m .marks)) (λ i. pointNumbers (m .points) (m .edges) (m .marks) i ∷ []) ∙ all-entries (m .edges) (length (m .marks)) (sym e) in
     let marks : map (λ row. getD row 4 0) (pointRows m) ≡ m .marks = map-join (λ row. getD row 4 0) (length (m .marks)) (λ i. pointNumbers (m .points) (m .edges) (m .marks) i ∷ []) ∙ all-entries (m .marks) (length (m .marks)) refl in
-    let corners : flatMap (λ row. threeAt row 0) (triangleRows m) ≡ m .triangles = flat-rows (λ row. threeAt row 0) (length (m .triangles) / 3) (triangleNumbers (m .triangles)) ∙ threes (m .triangles) (length (m .triangles) / 3) t in
+    let corners : flatMap (λ row. threeAt row 0) (triangleRows m) ≡ m .triangles = flat-list (λ row. threeAt row 0) (length (m .triangles) / 3) (triangleNumbers (m .triangles)) ∙ join-threes (m .triangles) (length (m .triangles) / 3) t in
     rw (places, edges, marks, corners)

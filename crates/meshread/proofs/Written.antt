@@ -30,7 +30,7 @@ use Rattle.meshread.specs.Promise.{Rooms, Outcome, lengthsOf, mesh, room
 use Rattle.meshread.specs.Own.{textOf, countsIn, Own}
 use Rattle.meshread.proofs.Lines.{numbersOf, counts-exact, PointFits, point-exact, triangle-exact, ShellFits, shell-exact}
 use Rattle.meshread.proofs.Rows.{pointRows, triangleRows, text-rows, rows-mesh}
-use Rattle.meshread.proofs.Chains.{chain-places, free-chain}
+use Rattle.reading.proofs.Chains.{chain-places, free-chain}
 use Rattle.meshread.proofs.OneRead.{one-read}
 
 module _ (m : Mesh) (own : Own m) where

@@ -8,5 +8,6 @@ pub mod Fields
 pub mod Signs
 pub mod Texts
 pub mod Following
+pub mod Chains
 pub mod Turns
 pub mod Again

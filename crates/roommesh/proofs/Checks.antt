@@ -8,8 +8,8 @@ use lib.ListN.{length}
 use borrow.Author.Tests.{eq-eqb, le-leb}
 use Rattle.grid.specs.Limits.{mostPoints, mostTriangles, mostCoordinate}
 use Rattle.mesh.specs.Check.{lengthsFit, trianglesFit, allWithin, meshNumber}
-use Rattle.parts.specs.Part.{partOf}
-use Rattle.parts.proofs.Parts.{length-part}
+use Rattle.laws.specs.Part.{partOf}
+use Rattle.laws.proofs.Parts.{length-part}
 use Rattle.columns.specs.Room.{marksAt, trianglesAt}
 
 module _ (work : List ℕ) (v t : ℕ) (few : v ≤ mostPoints) (triangles-few : t ≤ mostTriangles) (inside : 4 * v + 3 * t ≤ length work) where

@@ -8,8 +8,8 @@ use lib.Seq.{sets, length-sets}
 use Rattle.laws.specs.Range.{countTo}
 use Rattle.laws.specs.Values.{listTo}
 use Rattle.laws.proofs.Values.{length-list}
-use Rattle.parts.specs.Part.{partOf}
-use Rattle.parts.proofs.Parts.{length-part, put-back, part-written, sets-again}
+use Rattle.laws.specs.Part.{partOf}
+use Rattle.laws.proofs.Parts.{length-part, put-back, part-written, sets-again}
 use Rattle.mesh.specs.Mesh.{trianglesOf}
 use Rattle.sets.specs.Sets.{Falling, isRoot, rankOf}
 use Rattle.roomsets.specs.Parts.{Unitable, UnitedWithin}

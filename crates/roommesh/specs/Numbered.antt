@@ -6,7 +6,7 @@ use Prim.Native.Nat.{ℕ, _*_, _≤_}
 use lib.ListN.{length}
 use lib.Seq.{sets}
 use Rattle.grid.specs.Limits.{mostPoints, mostTriangles}
-use Rattle.parts.specs.Part.{partOf}
+use Rattle.laws.specs.Part.{partOf}
 use Rattle.mesh.specs.Mesh.{trianglesOf}
 use Rattle.mesh.specs.Check.{trianglesFit}
 use Rattle.shellnumbers.specs.Numbering.{Numbering}

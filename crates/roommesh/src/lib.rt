@@ -4,7 +4,7 @@ ghost use Prim.Native.Nat.{_+_, _*_, _≤_};
 ghost use lib.ListN.{length};
 ghost use Rattle.grid.specs.Limits.{mostPoints, mostTriangles};
 ghost use Rattle.mesh.specs.Check.{meshNumber};
-ghost use Rattle.parts.specs.Part.{partOf};
+ghost use Rattle.laws.specs.Part.{partOf};
 ghost use Rattle.columns.specs.Room.{marksAt, trianglesAt};
 ghost use Rattle.roommesh.specs.Numbered.{Numberable, ShellsNumbered};
 use grid::limits::MOST_COORDINATE;

@@ -8,8 +8,8 @@ use lib.Seq.{sets, length-sets}
 use Rattle.laws.specs.Values.{listTo}
 use Rattle.laws.specs.Mesh.{triangle}
 use Rattle.laws.proofs.Writes.{sets-before}
-use Rattle.parts.specs.Part.{partOf}
-use Rattle.parts.proofs.Parts.{length-part, part-at, put-back, part-back, part-written, part-before, sets-again}
+use Rattle.laws.specs.Part.{partOf}
+use Rattle.laws.proofs.Parts.{length-part, part-at, put-back, part-back, part-written, part-before, sets-again}
 use Rattle.mesh.specs.Check.{trianglesFit}
 use Rattle.mesh.specs.Mesh.{triangleCount}
 use Rattle.mesh.proofs.Passed.{Corners}

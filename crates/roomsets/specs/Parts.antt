@@ -5,7 +5,7 @@ use mathlib.Core.Bool.{true}
 use Prim.Native.Nat.{ℕ, _+_, _*_, _-_, _<_, _≤_}
 use lib.ListN.{length, getD}
 use lib.Seq.{sets}
-use Rattle.parts.specs.Part.{partOf}
+use Rattle.laws.specs.Part.{partOf}
 use Rattle.grid.specs.Limits.{mostPoints}
 use Rattle.mesh.specs.Check.{trianglesFit}
 use Rattle.sets.specs.Sets.{Falling, Joined, United}

@@ -1,7 +1,6 @@
--- Smoothing keeps coordinates within the limit (Weighed, Within); how the code sums up, copies, places a point and goes through a round.
+-- Smoothing keeps coordinates within the limit (Weighed, Within); how the code sums up, places a point and goes through a round.
 pub mod Weighed
 pub mod Within
 pub mod Summing
-pub mod Copied
 pub mod Placed
 pub mod Rounding

@@ -4,13 +4,15 @@ use mathlib.Core.List.{List}
 use Prim.Native.Nat.{ℕ, _+_, _*_, _-_, _<_, _≤_}
 use native.Mathlib.Omega.{arith}
 use lib.ListN.{length, getD}
-use lib.Seq.{sets, length-sets, ext-getD}
+use lib.Seq.{sets, length-sets}
 use Rattle.laws.specs.Range.{sumTo, joinTo}
+use Rattle.laws.specs.Part.{partOf}
 use Rattle.laws.proofs.Ranges.{sum-cong, join-next}
 use Rattle.laws.proofs.Rows.{length-rows}
-use Rattle.laws.proofs.Writes.{sets-append, sets-before, sets-at}
+use Rattle.laws.proofs.Writes.{sets-append, sets-before}
+use Rattle.laws.proofs.Parts.{part-written}
 use Rattle.rounds.specs.Round.{coordinateOf}
-use Rattle.rounds.specs.Steps.{Held, SameTo, CopiedFrom, heldSum, heldStart, heldCount, heldPoint, heldRound}
+use Rattle.rounds.specs.Steps.{Held, SameTo, heldSum, heldStart, heldCount, heldPoint, heldRound}
 
 -- a room whose front stays up to behind the starts has the same lists
 module _ (at v end : ℕ) (work after : List ℕ) (room : at + v < end) (same : SameTo end work after) (held : Held at work v) where
@@ -92,10 +94,8 @@ module _ (marks : List ℕ) (w at second : ℕ) (old work₀ : List ℕ) where
               ∙ ap (sets work₀ second) (sym (join-next p point));
         }
 
-    -- all points placed, and copied over the old places
-    pub placed-last : (to : ℕ) (work new : List ℕ) → PlacedTo (length marks) to work → length new ≡ 3 * length marks → CopiedFrom second work new
-        → new ≡ heldRound at work₀ marks w old
+    -- all points placed: the new places, which are copied over the old ones
+    pub placed-last : (to : ℕ) (work : List ℕ) (long : ℕ) → PlacedTo (length marks) to work → long ≡ 3 * length marks → partOf second long work ≡ heldRound at work₀ marks w old
     unfolding heldRound
-    placed-last to work new h long copied =
-        ext-getD 0 new (joinTo (length marks) point) (long ∙ sym (length-to (length marks)))
-        (λ i l. copied i l ∙ rw (h .written) (sets-at work₀ second (joinTo (length marks) point) i 0 (omega (arith, length-to (length marks))) (omega (arith, length-to (length marks)))))
+    placed-last to work long h e =
+        rw (h .written, e ∙ sym (length-to (length marks))) (part-written work₀ second (joinTo (length marks) point) (omega (arith, length-to (length marks))))

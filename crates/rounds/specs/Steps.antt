@@ -44,10 +44,6 @@ module _ (at : ℕ) (work : List ℕ) where
 abbrev pub NamesTo : ℕ → ℕ → List ℕ → List ℕ → Type 0
 NamesTo n from old work = (k : ℕ) → k < n → 3 * getD work (from + k) 0 + 2 < length old
 
--- a list holds what stands in another from a place on
-abbrev pub CopiedFrom : ℕ → List ℕ → List ℕ → Type 0
-CopiedFrom from read written = (i : ℕ) → i < length written → getD written i 0 ≡ getD read (from + i) 0
-
 -- the room up to a place stays
 abbrev pub SameTo : ℕ → List ℕ → List ℕ → Type 0
 SameTo end work after = (i : ℕ) → i < end → getD after i 0 ≡ getD work i 0

@@ -8,8 +8,9 @@ ghost use lib.ListN.{length};
 ghost use lib.Seq.{sets};
 ghost use Rattle.grid.specs.Limits.{mostWeight, mostPoints, mostCoordinate};
 ghost use Rattle.rounds.specs.Round.{moved as movedTo};
-ghost use Rattle.rounds.specs.Steps.{SmallPlaces, NamesTo, CopiedFrom, Held, SameTo, heldSum, heldPoint, heldRound};
+ghost use Rattle.rounds.specs.Steps.{SmallPlaces, NamesTo, Held, SameTo, heldSum, heldPoint, heldRound};
 use grid::limits::MOST_WEIGHT;
+use rooms::copy;
 
 // ((256 - w)·d·p + w·S) / (256·d) to the nearest, halves up: where coordinate p of a point goes that has d neighbours whose coordinates sum up to S.
 fn moved(weight: u32, d: usize, p: u32, sum: u64) -> u32
@@ -108,18 +109,6 @@ fn place(
     write_three(to, x, y, z, work);
 }
 
-// The numbers that stand in one list from a place on, over the whole of another.
-pub fn copy(from: usize, read: &[u32], written: &mut [u32])
-    requires { ⌜ from + length (now written) ≤ length (now read) ⌝ }
-    ensures { λ _. ⌜ CopiedFrom from (now (read .entry)) (now (written .exit)) ⌝ }
-{
-    let mut i = 0;
-    while i < written.len() {
-        written[i] = read[from + i];
-        i += 1;
-    }
-}
-
 // A round: every point's new place goes behind `second` first, since all points of a round read the old places.
 pub fn round(
     marks: &[u8],
@@ -145,5 +134,5 @@ pub fn round(
         to += 3;
         p += 1;
     }
-    copy(second, work, smoothed);
+    copy(&work[second..to], smoothed);
 }

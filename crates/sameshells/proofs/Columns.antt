@@ -9,7 +9,7 @@ use lib.Seq.{sets, length-sets}
 use Rattle.laws.specs.Values.{listTo}
 use Rattle.laws.proofs.Values.{length-list, list-at, list-cong}
 use Rattle.laws.proofs.Writes.{sets-at}
-use Rattle.parts.proofs.Parts.{sets-over}
+use Rattle.laws.proofs.Parts.{sets-over}
 use Rattle.records.specs.declared.Shell.{Shell}
 use Rattle.columns.specs.Room.{columnAt, StandsIn, recordIn}
 use Rattle.columns.specs.Columns.{fieldOf}

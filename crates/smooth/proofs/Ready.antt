@@ -4,15 +4,16 @@ use mathlib.Core.List.{List}
 use Prim.Native.Nat.{ℕ, _+_, _*_, _<_, _≤_}
 use native.Mathlib.Numerals.{add-one}
 use native.Mathlib.Omega.{arith}
-use lib.ListN.{length, getD}
-use lib.Seq.{ext-getD}
+use lib.ListN.{length}
+use Rattle.laws.specs.Room.{laid}
 use Rattle.laws.specs.Mesh.{Triangle}
+use Rattle.laws.proofs.Rooms.{laid-whole}
 use Rattle.mesh.specs.Mesh.{triangleCount, trianglesOf}
 use Rattle.mesh.proofs.Passed.{Passed}
 use Rattle.grid.specs.Limits.{mostWeight}
 use Rattle.neighbours.specs.Lists.{Listed, ListsFit}
 use Rattle.rounds.specs.Round.{round, rounds}
-use Rattle.rounds.specs.Steps.{SmallPlaces, SameTo, CopiedFrom, Held, heldRound}
+use Rattle.rounds.specs.Steps.{SmallPlaces, SameTo, Held, heldRound}
 use Rattle.rounds.proofs.Within.{rounds-small, length-rounds}
 use Rattle.smooth.proofs.Linked.{lists-held, round-held, listed-kept}
 
@@ -42,10 +43,9 @@ module _ (points triangles marks : List ℕ) (ok : Passed points triangles marks
       }
 
   -- no round: the points copied
-  pub copied-all : (w : ℕ) (written : List ℕ) → length written ≡ 3 * v → CopiedFrom 0 points written → written ≡ rounds (trianglesOf triangles) marks w 0 points
+  pub copied-all : (w : ℕ) (smoothed : List ℕ) → length smoothed ≡ 3 * v → laid points smoothed ≡ rounds (trianglesOf triangles) marks w 0 points
   unfolding rounds
-  copied-all w written long copied =
-      ext-getD 0 written points (long ∙ sym (ok .threes)) (λ i l. copied i l ∙ ap (λ k. getD points k 0) (omega arith))
+  copied-all w smoothed long = laid-whole points smoothed (ok .threes ∙ sym long)
 
   -- a round more
   module _ (w k : ℕ) (lw : w ≤ mostWeight) (smoothed work : List ℕ) (is : smoothed ≡ rounds (trianglesOf triangles) marks w k points)

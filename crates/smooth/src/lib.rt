@@ -9,7 +9,7 @@ ghost use Rattle.rounds.specs.Round.{rounds as roundsOf};
 ghost use Rattle.smooth.specs.Promise.{Smooths};
 use grid::limits::MOST_ROUNDS;
 use grid::limits::MOST_WEIGHT;
-use rounds::copy;
+use rooms::copy;
 use rounds::round;
 
 // All rounds of a call that nothing refuses. The work room's parts: neighbours up to `at`, then their starts, then a stamp for each
@@ -32,7 +32,7 @@ fn granted(
 {
     let v = marks.len();
     let at = 2 * triangles.len();
-    copy(0, points, smoothed);
+    copy(points, smoothed);
     neighbours::list(triangles, v, at, work);
     let mut k = 0;
     while k < rounds {

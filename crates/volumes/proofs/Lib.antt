@@ -1,5 +1,4 @@
--- Numbers raised above 0; two words a shell in the work room; triangles in the work room; the volumes of the triangles so far.
-pub mod Raised
+-- Two words a shell in the work room; triangles in the work room; the volumes of the triangles so far.
 pub mod Words
 pub mod Triangles
 pub mod Volumes

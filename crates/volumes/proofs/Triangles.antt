@@ -4,7 +4,7 @@ use mathlib.Core.List.{List}
 use Prim.Native.Nat.{ℕ, _+_, _*_, _<_}
 use native.Mathlib.Omega.{arith}
 use lib.ListN.{getD}
-use Rattle.parts.proofs.Parts.{length-part}
+use Rattle.laws.proofs.Parts.{length-part}
 use Rattle.mesh.specs.Mesh.{triangleAt}
 use Rattle.mesh.specs.Place.{placeOf, Near}
 use Rattle.mesh.proofs.Places.{near-place}

@@ -13,7 +13,7 @@ use Rattle.laws.specs.Signed.{sumOfℤ}
 use Rattle.laws.proofs.Differences.{sum-appendℤ}
 use Rattle.laws.proofs.Keep.{length-keep}
 use Rattle.laws.proofs.Ranges.{count-le, keep-cong}
-use Rattle.parts.proofs.Parts.{length-part}
+use Rattle.laws.proofs.Parts.{length-part}
 use Rattle.mesh.specs.Mesh.{triangleCount, triangleAt}
 use Rattle.mesh.proofs.Passed.{corners}
 use Rattle.shellnumbers.specs.Numbering.{numberOf}
@@ -27,7 +27,7 @@ use Rattle.columns.proofs.Gathering.{keep-more, keep-same}
 use Rattle.columns.proofs.Rooms.{mesh-passed, many-points, many-triangles}
 use Rattle.volumes.specs.Volumes.{volumeIn, storedVolume, wordsIn, withWords, allWords, volumeRead, ShellsStand}
 use Rattle.volumes.specs.Turns.{gainOf, lossOf, changed, VolumeTurn}
-use Rattle.volumes.proofs.Raised.{raised-small, raised-more, read-back}
+use Rattle.laws.proofs.Raised.{raised-small, raised-more, read-back}
 use Rattle.volumes.proofs.Words.{SameShells, words-leave, words-again, words-cong, words-read, words-change}
 
 -- what the determinants of the first k triangles are together, of those that have number n by their first corner

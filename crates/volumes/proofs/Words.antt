@@ -1,34 +1,17 @@
 -- Two words a shell in the work room: read, one number changed, written again, and that they leave the mesh and the shell numbers.
-use mathlib.Core.Path.{_≡_, refl, ap, ap₂, sym, _∙_}
-use mathlib.Core.List.{List, [], _∷_}
-use Prim.Native.Nat.{ℕ, suc, _+_, _*_, _<_, _≤_}
+use mathlib.Core.Path.{_≡_, ap, ap₂, sym, _∙_}
+use mathlib.Core.List.{List}
+use Prim.Native.Nat.{ℕ, _+_, _*_, _<_, _≤_}
 use native.Mathlib.Omega.{arith}
-use lib.ListN.{length, getD, take, drop, set}
-use lib.Seq.{sets, length-sets, drop-set-lt}
+use lib.ListN.{length, getD, set}
+use lib.Seq.{sets, length-sets}
 use Rattle.laws.specs.Values.{listTo}
 use Rattle.laws.proofs.Values.{length-list, list-cong}
-use Rattle.laws.proofs.Writes.{sets-before, set-before}
-use Rattle.parts.specs.Part.{partOf}
-use Rattle.parts.proofs.Parts.{part-before, sets-again}
+use Rattle.laws.proofs.Writes.{sets-before, set-before, sets-comm}
+use Rattle.laws.proofs.Parts.{part-before, part-behind, sets-again}
 use Rattle.columns.specs.Room.{marksAt, trianglesAt, numbersAt, columnAt, workLength, pointsIn, trianglesIn, numbersIn}
-use Rattle.columns.proofs.Runs.{run-at, run-change}
+use Rattle.laws.proofs.Runs.{run-at, run-change}
 use Rattle.volumes.specs.Volumes.{highWord, lowWord, wordsIn, withWords, allWords}
-
--- ---- runs of writes in a list
-module _ {A : Type 0} where
-  -- a run below another comes before it
-  sets-comm : (room : List A) (m c : ℕ) (xs ys : List A) → m + length xs ≤ c → sets (sets room c ys) m xs ≡ sets (sets room m xs) c ys
-  sets-comm room m c [] ys h = refl
-  sets-comm room m c (x ∷ xs) ys h =
-      ap (λ r. sets r (suc m) xs) (set-before room m c ys x (omega arith)) ∙ sets-comm (set room m x) (suc m) c xs ys (omega arith)
-
-  -- what stands behind a run stays
-  drop-behind : (room : List A) (at : ℕ) (xs : List A) (b : ℕ) → at + length xs ≤ b → drop b (sets room at xs) ≡ drop b room
-  drop-behind room at [] b h = refl
-  drop-behind room at (x ∷ xs) b h = drop-behind (set room at x) (suc at) xs b (omega arith) ∙ drop-set-lt b room at x (omega arith)
-
-  part-behind : (room : List A) (at : ℕ) (xs : List A) (b long : ℕ) → at + length xs ≤ b → partOf b long (sets room at xs) ≡ partOf b long room
-  part-behind room at xs b long h = ap (take long) (drop-behind room at xs b h)
 
 -- equal numbers
 pub words-cong : (v t shells : ℕ) (room : List ℕ) (f g : ℕ → ℕ) → ((n : ℕ) → n < shells → f n ≡ g n) → allWords v t shells f room ≡ allWords v t shells g room
@@ -63,10 +46,10 @@ module _ (v t shells : ℕ) (room : List ℕ) (whole : length room ≡ workLengt
             ∙ part-before room (marksAt v) hs (omega (arith, high)) 0 (3 * v) (omega arith);
         triangles =
             part-before (highs f) (columnAt v t) ls (omega (arith, low, wide)) (trianglesAt v) (3 * t) (omega arith)
-            ∙ part-behind room (marksAt v) hs (trianglesAt v) (3 * t) (omega (arith, high));
+            ∙ part-behind room (marksAt v) hs (omega (arith, high)) (trianglesAt v) (3 * t) (omega (arith, high));
         numbers =
             part-before (highs f) (columnAt v t) ls (omega (arith, low, wide)) (numbersAt v t) v (omega arith)
-            ∙ part-behind room (marksAt v) hs (numbersAt v t) v (omega (arith, high));
+            ∙ part-behind room (marksAt v) hs (omega (arith, high)) (numbersAt v t) v (omega (arith, high));
       }
 
   pub words-again : (f g : ℕ → ℕ) → allWords v t shells g (allWords v t shells f room) ≡ allWords v t shells g room

@@ -5,7 +5,7 @@ use native.Mathlib.Omega.{arith}
 use lib.ListN.{length, set, length-set}
 use lib.Seq.{sets}
 use Rattle.laws.specs.Values.{listTo}
-use Rattle.columns.proofs.Runs.{run-none, run-more}
+use Rattle.laws.proofs.Runs.{run-none, run-more}
 use Rattle.columns.proofs.fill.Statement.{statement}
 use Rattle.columns.proofs.fill.Tie as tie
 

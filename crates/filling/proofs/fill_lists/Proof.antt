@@ -4,7 +4,7 @@ use Prim.Native.Nat.{ℕ, _+_, _*_, _-_}
 use native.Mathlib.Omega.{arith}
 use lib.Seq.{length-take-le}
 use Rattle.laws.specs.Room.{laid}
-use Rattle.parts.specs.Part.{partOf}
+use Rattle.laws.specs.Part.{partOf}
 use Rattle.columns.specs.Room.{trianglesAt}
 use borrow.Author.Needs.{needs}
 use Rattle.filling.proofs.fill_lists.Statement.{statement}

@@ -7,7 +7,7 @@ use borrow.Author.Needs.{needs}
 use Rattle.laws.specs.Room.{laid}
 use Rattle.meshread.specs.Lines.{edgeOf}
 use Rattle.judge.specs.Judged.{edgesAt, marksOn}
-use Rattle.filling.proofs.Front.{front-none, front-more, front-all}
+use Rattle.laws.proofs.Rooms.{front-none, front-more, front-all}
 use Rattle.filling.proofs.Again.{Again, again-begin, again-end, again-inside, again-small, again-at, again-next}
 use Rattle.filling.proofs.fill_points.Statement.{statement}
 use Rattle.filling.proofs.fill_points.Tie as tie
@@ -90,8 +90,8 @@ loop-again c =
       again-next (a .input .now) (a .from) (a .v) (l .loop .i) (l .loop .at) (l .loop .bound) (l .loop .inv .0) (omega arith) (x .ok) (x .numbers) (x .next) h,
       rw length-set (l .loop .inv .1),
       rw length-set (l .loop .inv .2),
-      front-more (edgesAt (a .input .now) (a .from) (a .v)) (a .edges .now) (l .loop .i) (l .loop .inv .3) (is edgeOf) (inside edgeOf) (omega (arith, s .pre .1 .1)),
-      front-more (marksOn (a .input .now) (a .from) (a .v)) (a .marks .now) (l .loop .i) (l .loop .inv .4) (is (λ row. getD row 4 0)) (inside (λ row. getD row 4 0)) (omega (arith, s .pre .1 .2)),
+      front-more (edgesAt (a .input .now) (a .from) (a .v)) (a .edges .now) 0 (l .loop .i) (l .loop .inv .3) (is edgeOf) (inside edgeOf) (omega (arith, s .pre .1 .1)),
+      front-more (marksOn (a .input .now) (a .from) (a .v)) (a .marks .now) 0 (l .loop .i) (l .loop .inv .4) (is (λ row. getD row 4 0)) (inside (λ row. getD row 4 0)) (omega (arith, s .pre .1 .2)),
     )
 
 same-length : tie.Need-same-length Inv-loop μ-loop

@@ -2,9 +2,9 @@
 use mathlib.Core.Path.{_≡_, refl, ap, _∙_}
 use Prim.Native.Nat.{_-_, _≤_}
 use native.Mathlib.Omega.{arith}
-use lib.ListN.{length, getD, take, set, length-set}
+use lib.ListN.{length, take, length-set}
 use Rattle.laws.specs.Room.{laid}
-use Rattle.gridtext.proofs.Samples.{copy-begins, copy-next}
+use Rattle.laws.proofs.Rooms.{front-none, front-more}
 use Rattle.gridtext.proofs.copy.Statement.{statement}
 use Rattle.gridtext.proofs.copy.Tie as tie
 
@@ -15,7 +15,7 @@ abbrev μ-loop : tie.MeasureT-loop
 μ-loop count read written₀ i₀ written i = count - i
 
 loop-holds : tie.Need-loop-holds Inv-loop μ-loop
-loop-holds c = (omega arith, refl, copy-begins (c .args .read .now) (c .args .written .now))
+loop-holds c = (omega arith, refl, front-none (c .args .read .now) (c .args .written .now))
 
 mul-written : tie.Need-mul-written Inv-loop μ-loop
 mul-written c = omega arith
@@ -39,7 +39,7 @@ loop-again : tie.Need-loop-again Inv-loop μ-loop
 loop-again c =
     let l = c .before .before in
     let a = l .before .args in
-    (omega arith, rw length-set (l .loop .inv .1), ap (λ w. set w (l .loop .i) (getD (a .read .now) (l .loop .i) 0)) (l .loop .inv .2) ∙ copy-next (a .read .now) (a .written .now) (l .loop .i) (omega arith) (omega arith))
+    (omega arith, rw length-set (l .loop .inv .1), front-more (a .read .now) (a .written .now) 0 (l .loop .i) (l .loop .inv .2) refl (omega arith) (omega arith))
 
 same-length : tie.Need-same-length Inv-loop μ-loop
 same-length c = c .before .loop .inv .1

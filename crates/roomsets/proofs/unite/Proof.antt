@@ -6,7 +6,7 @@ use lib.ListN.{length}
 use lib.Seq.{length-sets}
 use Rattle.laws.specs.Values.{listTo}
 use Rattle.laws.proofs.Values.{length-list}
-use Rattle.parts.proofs.Parts.{length-part}
+use Rattle.laws.proofs.Parts.{length-part}
 use Rattle.roomsets.specs.Parts.{Unitable, UnitedWithin}
 use Rattle.roomsets.proofs.Joining.{Turned, turned-none, joinable, turned-next, turned-all, still-unitable, united-so}
 use Rattle.roomsets.proofs.unite.Statement.{statement}

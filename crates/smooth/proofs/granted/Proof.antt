@@ -45,7 +45,7 @@ loop-holds c =
     let a = s .args in
     let k = c .before .before .before .before .before .before .copy in (
       omega arith,
-      copied-all (a .points .now) (a .triangles .now) (a .marks .now) (mesh s) (a .weight) (k .last .1 .1 .0) (k .kept .1 .1 .0 ∙ s .pre .1 .1 .0) (k .ensures),
+      k .ensures ∙ copied-all (a .points .now) (a .triangles .now) (a .marks .now) (mesh s) (a .weight) (a .smoothed .now) (s .pre .1 .1 .0),
       refl,
       c .before .before .list .ensures,
     )

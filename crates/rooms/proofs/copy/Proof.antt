@@ -1,12 +1,12 @@
--- `filling::copy` meets its contract: copied as far as the places that were passed. Assumes nothing.
+-- `rooms::copy` meets its contract: copied as far as the places that were passed. Assumes nothing.
 use mathlib.Core.Path.{_≡_, refl}
 use Prim.Native.Nat.{_-_, _≤_}
 use native.Mathlib.Omega.{arith}
 use lib.ListN.{length, take, length-set}
 use Rattle.laws.specs.Room.{laid}
-use Rattle.filling.proofs.Front.{front-none, front-more, front-all}
-use Rattle.filling.proofs.copy.Statement.{statement}
-use Rattle.filling.proofs.copy.Tie as tie
+use Rattle.laws.proofs.Rooms.{front-none, front-more, front-all}
+use Rattle.rooms.proofs.copy.Statement.{statement}
+use Rattle.rooms.proofs.copy.Tie as tie
 
 abbrev Inv-loop : tie.InvT-loop
 Inv-loop read written₀ i₀ written i = (i ≤ length read) × (length written ≡ length written₀) × (written ≡ laid (take i read) written₀)
@@ -39,7 +39,7 @@ loop-again : tie.Need-loop-again Inv-loop μ-loop
 loop-again c =
     let l = c .before .before in
     let a = l .before .args in
-    (omega arith, rw length-set (l .loop .inv .1), front-more (a .read .now) (a .written .now) (l .loop .i) (l .loop .inv .2) refl (omega arith) (omega arith))
+    (omega arith, rw length-set (l .loop .inv .1), front-more (a .read .now) (a .written .now) 0 (l .loop .i) (l .loop .inv .2) refl (omega arith) (omega arith))
 
 same-length : tie.Need-same-length Inv-loop μ-loop
 same-length c = c .before .loop .inv .1

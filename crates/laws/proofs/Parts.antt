@@ -5,8 +5,8 @@ use Prim.Native.Nat.{ℕ, suc, _+_, _<_, _≤_}
 use native.Mathlib.Omega.{arith}
 use lib.ListN.{length, getD, take, drop, set, length-drop, take-append-drop}
 use lib.Seq.{sets, sets-eq, set-set, length-take-le, take-at, drop-at, take-append-le, drop-append-le, drop-drop, getD-take, getD-drop}
-use Rattle.laws.proofs.Writes.{set-before}
-use Rattle.parts.specs.Part.{partOf}
+use Rattle.laws.proofs.Writes.{set-before, drop-behind}
+use Rattle.laws.specs.Part.{partOf}
 
 -- a part of the front of a list
 part-front : {A : Type 0} (xs ys : List A) (b long : ℕ) → b + long ≤ length xs → partOf b long (xs ++ ys) ≡ partOf b long xs
@@ -45,6 +45,10 @@ module _ {A : Type 0} (room : List A) where
         let front = length-take-le at room (omega arith) in
         ap (partOf b long) (sym put-sets) ∙ part-front (take at room) (xs ++ drop (length xs) (drop at room)) b long (omega arith)
         ∙ sym (part-front (take at room) (drop at room) b long (omega arith)) ∙ ap (partOf b long) (take-append-drop at room)
+
+    -- and what stands behind it
+    pub part-behind : (b long : ℕ) → at + length xs ≤ b → partOf b long (sets room at xs) ≡ partOf b long room
+    part-behind b long h = ap (take long) (drop-behind room at xs b h)
 
     -- written again, only the last counts
     pub sets-again : (ys : List A) → length ys ≡ length xs → sets (sets room at xs) at ys ≡ sets room at ys

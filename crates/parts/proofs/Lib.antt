@@ -1,2 +1,0 @@
--- A part of a room that was written, and the parts beside it.
-pub mod Parts

@@ -1,2 +1,0 @@
--- A part of a room.
-pub mod Part

@@ -1,1 +1,0 @@
-// A part of a room, read and written: definitions and laws, and no code.
