@@ -1,3 +1,4 @@
--- The reader: the answers of its calls, what they make together, and the walks.
+-- Line 1 has one answer; the reader: the answers of its calls, what they make together, and the walks.
+pub mod OneCounts
 pub mod Answers
 pub mod Ending

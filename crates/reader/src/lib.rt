@@ -1,6 +1,7 @@
-// A mesh read back from its text, into lent rooms (document 02 (iii)).
+// Line 1 of a mesh's text, and the mesh read back from it into lent rooms (document 02 (iii)).
 ghost use mathlib.Core.Path.{_≡_};
 ghost use Rattle.meshread.specs.Promise.{Reads};
+ghost use Rattle.reader.specs.Counts.{countsAnswered};
 ghost use Rattle.reader.specs.Promise.{answerOf, rooms, left};
 ghost use Rattle.reader.specs.Parts.{ListsRead};
 use filling::fill_lists;
@@ -8,6 +9,35 @@ use judge::Judged;
 use judge::judge;
 use readrecords::fill_records;
 use records::Shell;
+
+// Number 0 and the numbers of line 1; or number 15 and zeros.
+pub struct Counts {
+    pub number: u32,
+    pub points: u32,
+    pub triangles: u32,
+    pub shells: u32,
+}
+
+// What line 1 says, so that a caller can size the rooms of `read_mesh`.
+pub fn read_counts(input: &[u8]) -> Counts
+    ensures { λ r. ⌜ r ≡ countsAnswered (now (input .entry)) ⌝ }
+{
+    let line = meshrows::read_counts(input);
+    if !line.ok {
+        return Counts {
+            number: 15,
+            points: 0,
+            triangles: 0,
+            shells: 0,
+        };
+    }
+    Counts {
+        number: 0,
+        points: line.points,
+        triangles: line.triangles,
+        shells: line.shells,
+    }
+}
 
 // Number 0 and the counts if granted; else the refusal's number and line, and zeros.
 pub struct Read {

@@ -6,7 +6,7 @@ ghost use Rattle.writing.specs.Writing.{outcome};
 ghost use Rattle.meshtext.specs.MeshText.{meshWritten, Holds};
 ghost use Rattle.meshread.specs.Promise.{Reads};
 ghost use Rattle.reader.specs.Promise.{rooms, left};
-ghost use Rattle.viewertexts.specs.Counts.{countsLeft, countsAnswered};
+ghost use Rattle.reader.specs.Counts.{countsLeft, countsAnswered};
 use records::Shell;
 
 // The text of a mesh and its records, one a shell, to the front of the lent room. Answers 0 if granted, else the refusal's number; the length of the text
@@ -79,15 +79,9 @@ pub extern "C" fn tholbrina_read_counts(
 ) -> u32
     ensures { λ r. ⌜ countsLeft r (now (points .exit)) (now (triangles .exit)) (now (shells .exit)) ≡ countsAnswered (now (text .entry)) ⌝ }
 {
-    let counts = meshrows::read_counts(text);
-    if !counts.ok {
-        *points = 0;
-        *triangles = 0;
-        *shells = 0;
-        return 15;
-    }
+    let counts = reader::read_counts(text);
     *points = counts.points;
     *triangles = counts.triangles;
     *shells = counts.shells;
-    0
+    counts.number
 }
