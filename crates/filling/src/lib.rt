@@ -46,12 +46,11 @@ pub fn fill_lists(
     ensures { λ _. ⌜ ListsFilled (now (input .entry)) judged (now (points .entry)) (now (points .exit)) (now (edges .entry)) (now (edges .exit)) (now (marks .entry)) (now (marks .exit)) (now (triangles .entry)) (now (triangles .exit)) (now (work .entry)) (now (work .exit)) ⌝ }
 {
     let v = judged.points as usize;
-    let t = judged.triangles as usize;
     let from = judged.points_at;
-    let corners = 4 * v;
-    let end = corners + 3 * t;
-    copy(&work[..3 * v], points);
-    copy(&work[corners..end], triangles);
+    let coordinates = 3 * v;
+    let corners = 3 * (judged.triangles as usize);
+    copy(0, work, &mut points[..coordinates]);
+    copy(4 * v, work, &mut triangles[..corners]);
     fill_points(input, from, v, edges, marks);
     clear(work);
 }

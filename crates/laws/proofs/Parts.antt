@@ -6,6 +6,7 @@ use native.Mathlib.Omega.{arith}
 use lib.ListN.{length, getD, take, drop, set, length-drop, take-append-drop}
 use lib.Seq.{sets, sets-eq, set-set, length-take-le, take-at, drop-at, take-append-le, drop-append-le, drop-drop, getD-take, getD-drop}
 use Rattle.laws.proofs.Writes.{set-before, drop-behind}
+use Rattle.laws.specs.Room.{laid}
 use Rattle.laws.specs.Part.{partOf}
 
 -- a part of the front of a list
@@ -61,3 +62,9 @@ module _ {A : Type 0} (room xs : List A) (at long : ℕ) (e : length xs ≡ long
 
   pub part-back : partOf at long (take at room ++ (xs ++ drop long (drop at room))) ≡ xs
   part-back = rw put-back (rw (sym e) (part-written room at xs (omega arith)))
+
+-- the front of a room that was lent, and came back as a part of a list
+pub front-back : {A : Type 0} (read room front : List A) (from long : ℕ) → long ≤ length room → from + long ≤ length read → front ≡ partOf from (length (take long room)) read
+    → front ++ drop long room ≡ laid (partOf from long read) room
+unfolding laid
+front-back read room front from long h k e = rw (e, length-take-le long room h, length-part read from long k)

@@ -1,8 +1,8 @@
 // What calls do with lent rooms.
 ghost use mathlib.Core.Path.{_≡_};
-ghost use Prim.Native.Nat.{_≤_, min};
+ghost use Prim.Native.Nat.{_+_, _≤_, min};
 ghost use lib.ListN.{length, replicate};
-ghost use Rattle.laws.specs.Room.{laid};
+ghost use Rattle.laws.specs.Part.{partOf};
 
 // The lesser of two lengths.
 pub fn least(a: usize, b: usize) -> usize
@@ -22,14 +22,14 @@ pub fn clear(room: &mut [u32])
     }
 }
 
-// Copies all numbers to the front of a room.
-pub fn copy(read: &[u32], written: &mut [u32])
-    requires { ⌜ length (now read) ≤ length (now written) ⌝ }
-    ensures { λ _. ⌜ now (written .exit) ≡ laid (now (read .entry)) (now (written .entry)) ⌝ }
+// The numbers that stand in a list from a place on, over the whole of a room.
+pub fn copy(from: usize, read: &[u32], written: &mut [u32])
+    requires { ⌜ from + length (now written) ≤ length (now read) ⌝ }
+    ensures { λ _. ⌜ now (written .exit) ≡ partOf from (length (now (written .entry))) (now (read .entry)) ⌝ }
 {
     let mut i = 0;
-    while i < read.len() {
-        written[i] = read[i];
+    while i < written.len() {
+        written[i] = read[from + i];
         i += 1;
     }
 }

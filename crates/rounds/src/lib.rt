@@ -134,5 +134,5 @@ pub fn round(
         to += 3;
         p += 1;
     }
-    copy(&work[second..to], smoothed);
+    copy(second, work, smoothed);
 }

@@ -5,9 +5,9 @@ use Prim.Native.Nat.{ℕ, _+_, _*_, _<_, _≤_}
 use native.Mathlib.Numerals.{add-one}
 use native.Mathlib.Omega.{arith}
 use lib.ListN.{length}
-use Rattle.laws.specs.Room.{laid}
+use lib.Seq.{take-all}
+use Rattle.laws.specs.Part.{partOf}
 use Rattle.laws.specs.Mesh.{Triangle}
-use Rattle.laws.proofs.Rooms.{laid-whole}
 use Rattle.mesh.specs.Mesh.{triangleCount, trianglesOf}
 use Rattle.mesh.proofs.Passed.{Passed}
 use Rattle.grid.specs.Limits.{mostWeight}
@@ -43,9 +43,9 @@ module _ (points triangles marks : List ℕ) (ok : Passed points triangles marks
       }
 
   -- no round: the points copied
-  pub copied-all : (w : ℕ) (smoothed : List ℕ) → length smoothed ≡ 3 * v → laid points smoothed ≡ rounds (trianglesOf triangles) marks w 0 points
+  pub copied-all : (w : ℕ) (smoothed : List ℕ) → length smoothed ≡ 3 * v → partOf 0 (length smoothed) points ≡ rounds (trianglesOf triangles) marks w 0 points
   unfolding rounds
-  copied-all w smoothed long = laid-whole points smoothed (ok .threes ∙ sym long)
+  copied-all w smoothed long = take-all (length smoothed) points (omega (arith, ok .threes))
 
   -- a round more
   module _ (w k : ℕ) (lw : w ≤ mostWeight) (smoothed work : List ℕ) (is : smoothed ≡ rounds (trianglesOf triangles) marks w k points)

@@ -32,7 +32,7 @@ fn granted(
 {
     let v = marks.len();
     let at = 2 * triangles.len();
-    copy(points, smoothed);
+    copy(0, points, smoothed);
     neighbours::list(triangles, v, at, work);
     let mut k = 0;
     while k < rounds {

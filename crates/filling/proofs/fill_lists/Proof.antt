@@ -1,10 +1,9 @@
 -- `filling::fill_lists` meets its contract: the mesh from the work room and from the lines of the points stands in the rooms. Assumes nothing.
-use mathlib.Core.Path.{_≡_, ap, sym, _∙_}
-use Prim.Native.Nat.{ℕ, _+_, _*_, _-_}
+use mathlib.Core.Path.{sym}
+use Prim.Native.Nat.{_*_}
 use native.Mathlib.Omega.{arith}
 use lib.Seq.{length-take-le}
-use Rattle.laws.specs.Room.{laid}
-use Rattle.laws.specs.Part.{partOf}
+use Rattle.laws.proofs.Parts.{front-back}
 use Rattle.columns.specs.Room.{trianglesAt}
 use borrow.Author.Needs.{needs}
 use Rattle.filling.proofs.fill_lists.Statement.{statement}
@@ -13,48 +12,43 @@ use Rattle.filling.proofs.fill_lists.Tie as tie
 cast-v : tie.Need-cast-v
 cast-v c = search needs
 
-cast-t : tie.Need-cast-t
-cast-t c = search needs
+mul-coordinates : tie.Need-mul-coordinates
+mul-coordinates c = search needs
+
+cast-corners : tie.Need-cast-corners
+cast-corners c = search needs
 
 mul-corners : tie.Need-mul-corners
 mul-corners c = search needs
 
-mul-end : tie.Need-mul-end
-mul-end c = search needs
-
-add-end : tie.Need-add-end
-add-end c = search needs
-
-mul-copy : tie.Need-mul-copy
-mul-copy c = search needs
-
-slice-reshare-prefix-copy : tie.Need-slice-reshare-prefix-copy
-slice-reshare-prefix-copy c = search needs
+slice-relend-prefix-copy : tie.Need-slice-relend-prefix-copy
+slice-relend-prefix-copy c = search needs
 
 slice-aggregate-copy : tie.Need-slice-aggregate-copy
 slice-aggregate-copy c =
-    let s = c .before .before .before .before .before .before .before .before .before in
-    sym (length-take-le (3 * s .args .judged .points) (s .args .work .now) (omega (arith, s .pre .whole)))
+    let s = c .before .before .before .before .before .before .before .before .before .before in
+    sym (length-take-le (3 * s .args .judged .points) (s .args .points .now) (s .pre .points-hold))
 
 copy-requires : tie.Need-copy-requires
 copy-requires c κs =
     let s = c .before .before .before .before .before .before .before .before .before .before in
-    rw (length-take-le (3 * s .args .judged .points) (s .args .work .now) (omega (arith, s .pre .whole))) (s .pre .points-hold)
+    omega (arith, length-take-le (3 * s .args .judged .points) (s .args .points .now) (s .pre .points-hold), s .pre .whole)
 
-mul-copy-2 : tie.Need-mul-copy-2
-mul-copy-2 c = search needs
+mul-copy : tie.Need-mul-copy
+mul-copy c = search needs
 
-sub-copy : tie.Need-sub-copy
-sub-copy c = search needs
+slice-relend-prefix-copy-2 : tie.Need-slice-relend-prefix-copy-2
+slice-relend-prefix-copy-2 c = search needs
 
-part-copy-start : tie.Need-part-copy-start
-part-copy-start c = search needs
-
-part-copy-end : tie.Need-part-copy-end
-part-copy-end c = search needs
+slice-aggregate-copy-2 : tie.Need-slice-aggregate-copy-2
+slice-aggregate-copy-2 c =
+    let s = c .before .before .before .before .before .before .before .before .before .before .before .before .before .before .before in
+    sym (length-take-le (3 * s .args .judged .triangles) (s .args .triangles .now) (s .pre .triangles-hold))
 
 copy-requires-2 : tie.Need-copy-requires-2
-copy-requires-2 c κs = search needs
+copy-requires-2 c κs =
+    let s = c .before .before .before .before .before .before .before .before .before .before .before .before .before .before .before in
+    omega (arith, length-take-le (3 * s .args .judged .triangles) (s .args .triangles .now) (s .pre .triangles-hold), s .pre .whole)
 
 fill-points-requires : tie.Need-fill-points-requires
 fill-points-requires c κs = search needs
@@ -81,16 +75,16 @@ returns : tie.Need-returns
 returns c =
     let filled = c .before .before .before .before .before .before .before .before in
     let corners = filled .before .before .before .before .before in
-    let points = corners .before .before .before .before .before .before in
-    let a = points .before .before .before .before .before .before .before .before .before .before .before .args in
-    let v : ℕ = a .judged .points in
-    let t : ℕ = a .judged .triangles in
-    let e : 4 * v + 3 * t - 4 * v ≡ 3 * t = omega arith in
+    let points = corners .before .before .before .before .before in
+    let s = points .before .before .before .before .before .before .before .before .before .before .before in
+    let a = s .args in
+    let v = a .judged .points in
+    let t = a .judged .triangles in
     record {
-      points-are = points .copy .ensures;
+      points-are = front-back (a .work .now) (a .points .now) (points .copy .last .1 .1 .0) 0 (3 * v) (s .pre .points-hold) (omega (arith, s .pre .whole)) (points .copy .ensures);
       edges-are = filled .fill-points .ensures .0;
       marks-are = filled .fill-points .ensures .1;
-      triangles-are = corners .copy2 .ensures ∙ ap (λ n. laid (partOf (trianglesAt v) n (a .work .now)) (a .triangles .now)) e;
+      triangles-are = front-back (a .work .now) (a .triangles .now) (corners .copy2 .last .1 .1 .0) (trianglesAt v) (3 * t) (s .pre .triangles-hold) (omega (arith, s .pre .whole)) (corners .copy2 .ensures);
       zeroed = c .before .before .clear .ensures;
     }
 
@@ -99,18 +93,15 @@ fill-lists-spec =
     tie.close
     (tie.spec
     cast-v
-    cast-t
+    mul-coordinates
+    cast-corners
     mul-corners
-    mul-end
-    add-end
-    mul-copy
-    slice-reshare-prefix-copy
+    slice-relend-prefix-copy
     slice-aggregate-copy
     copy-requires
-    mul-copy-2
-    sub-copy
-    part-copy-start
-    part-copy-end
+    mul-copy
+    slice-relend-prefix-copy-2
+    slice-aggregate-copy-2
     copy-requires-2
     fill-points-requires
     clear-requires

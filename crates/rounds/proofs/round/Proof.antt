@@ -1,11 +1,8 @@
 -- `rounds::round` meets its contract: the new places of the points that were passed. Assumes nothing.
 use mathlib.Core.Path.{_≡_, _∙_}
-use Prim.Native.Nat.{_+_, _*_, _-_, _<_, _≤_}
+use Prim.Native.Nat.{_+_, _-_, _<_}
 use native.Mathlib.Omega.{arith}
 use lib.ListN.{length}
-use Rattle.laws.specs.Part.{partOf}
-use Rattle.laws.proofs.Rooms.{laid-whole}
-use Rattle.laws.proofs.Parts.{length-part}
 use Rattle.rounds.proofs.Rounding.{PlacedTo, placed-first, placed-same, placed-long, placed-held, placed-next, placed-last}
 use Rattle.rounds.proofs.round.Statement.{statement}
 use Rattle.rounds.proofs.round.Tie as tie
@@ -56,58 +53,34 @@ loop-again c =
     let k = c .before .before .place in
     placed-next (a .marks .now) (a .weight) (a .at) (a .second) (a .smoothed .now) (a .work .now) (q .1 .1 .1 .1 .0) (q .1 .1 .1 .1 .1) (q .1 .0) (l .loop .p) (l .loop .to) (l .loop .work) (k .last .1 .1 .1 .1 .1 .1 .1 .0) (bounds (c .before .before .before .before .before .before) .0) (l .loop .inv) (k .ensures)
 
--- all points are placed, and their places end in the room
-long-still : (c : tie.After-loop Inv-loop μ-loop) → length (c .before .loop .work) ≡ length (c .before .before .before .before .before .args .work .now)
-long-still c =
-    let l = c .before in
+at-end : (c : tie.After-loop Inv-loop μ-loop) → c .before .loop .p ≡ length (c .before .before .before .before .before .args .marks .now)
+at-end c = omega (arith, c .before .loop .inv .within)
+
+copy-requires : tie.Need-copy-requires Inv-loop μ-loop
+copy-requires c κs =
+    let l = c .before .before .before in
+    let a = l .before .before .before .before .args in
+    let q = l .before .before .before .before .pre in
+    omega (arith, q .1 .1 .0, q .1 .1 .1 .1 .1, placed-long (a .marks .now) (a .weight) (a .at) (a .second) (a .smoothed .now) (a .work .now) (q .1 .1 .1 .1 .0) (q .1 .1 .1 .1 .1) (q .1 .0) (l .loop .p) (l .loop .to) (l .loop .work) (l .loop .inv))
+
+same-length : tie.Need-same-length Inv-loop μ-loop
+same-length c = c .before .before .copy .kept .1 .1 .0
+
+same-length-2 : tie.Need-same-length-2 Inv-loop μ-loop
+same-length-2 c =
+    let l = c .before .before .before .before .before .before in
     let a = l .before .before .before .before .args in
     let q = l .before .before .before .before .pre in
     placed-long (a .marks .now) (a .weight) (a .at) (a .second) (a .smoothed .now) (a .work .now) (q .1 .1 .1 .1 .0) (q .1 .1 .1 .1 .1) (q .1 .0) (l .loop .p) (l .loop .to) (l .loop .work) (l .loop .inv)
 
-at-end : (c : tie.After-loop Inv-loop μ-loop) → let l = c .before in let a = l .before .before .before .before .args in
-    (l .loop .p ≡ length (a .marks .now)) × (l .loop .to ≡ a .second + 3 * length (a .marks .now)) × (l .loop .to ≤ length (l .loop .work))
-at-end c =
-    let l = c .before in
-    let q = l .before .before .before .before .pre in
-    let end : l .loop .p ≡ length (l .before .before .before .before .args .marks .now) = omega (arith, l .loop .inv .within) in
-    (end, omega (arith, l .loop .inv .to-is), omega (arith, l .loop .inv .to-is, q .1 .1 .1 .1 .1, long-still c))
-
-mul-copy : tie.Need-mul-copy Inv-loop μ-loop
-mul-copy c = omega (arith, at-end c)
-
-sub-copy : tie.Need-sub-copy Inv-loop μ-loop
-sub-copy c = omega (arith, at-end c)
-
-part-copy-start : tie.Need-part-copy-start Inv-loop μ-loop
-part-copy-start c = omega (arith, at-end (c .before))
-
-part-copy-end : tie.Need-part-copy-end Inv-loop μ-loop
-part-copy-end c = omega (arith, at-end (c .before))
-
-copy-requires : tie.Need-copy-requires Inv-loop μ-loop
-copy-requires c κs =
-    let e = at-end (c .before .before .before) in
-    let l = c .before .before .before .before in
-    let s = l .before .before .before .before in
-    rw (length-part (l .loop .work) (s .args .second) (l .loop .to - s .args .second) (omega (arith, e))) (omega (arith, e, s .pre .1 .1 .0))
-
-same-length : tie.Need-same-length Inv-loop μ-loop
-same-length c = c .before .before .copy .kept .1 .0
-
-same-length-2 : tie.Need-same-length-2 Inv-loop μ-loop
-same-length-2 c = long-still (c .before .before .before .before .before .before)
-
 returns : tie.Need-returns Inv-loop μ-loop
 returns c =
-    let t = c .before .before .before .before .before .before in
-    let l = t .before in
+    let l = c .before .before .before .before .before .before in
     let a = l .before .before .before .before .args in
     let q = l .before .before .before .before .pre in
     let k = c .before .before .copy in
-    let e = at-end t in
-    let placed = placed-last (a .marks .now) (a .weight) (a .at) (a .second) (a .smoothed .now) (a .work .now) (q .1 .1 .1 .1 .0) (q .1 .1 .1 .1 .1) (q .1 .0) (l .loop .to) (l .loop .work) (l .loop .to - a .second) (rw (e .0) at (l .loop .inv)) (omega (arith, e)) in
-    let fits = length-part (l .loop .work) (a .second) (l .loop .to - a .second) (omega (arith, e)) in (
-      k .ensures ∙ laid-whole (partOf (a .second) (l .loop .to - a .second) (l .loop .work)) (a .smoothed .now) (omega (arith, fits, e, q .1 .1 .0)) ∙ placed,
+    let end : l .loop .p ≡ length (a .marks .now) = at-end (c .before .before .before .before .before) in (
+      k .ensures ∙ placed-last (a .marks .now) (a .weight) (a .at) (a .second) (a .smoothed .now) (a .work .now) (q .1 .1 .1 .1 .0) (q .1 .1 .1 .1 .1) (q .1 .0) (l .loop .to) (l .loop .work) (length (a .smoothed .now)) (rw end at (l .loop .inv)) (q .1 .1 .0),
       placed-same (a .marks .now) (a .weight) (a .at) (a .second) (a .smoothed .now) (a .work .now) (q .1 .1 .1 .1 .0) (q .1 .1 .1 .1 .1) (q .1 .0) (l .loop .p) (l .loop .to) (l .loop .work) (l .loop .inv),
     )
 
@@ -124,10 +97,6 @@ round-spec =
     add-p
     loop-less
     loop-again
-    mul-copy
-    sub-copy
-    part-copy-start
-    part-copy-end
     copy-requires
     same-length
     same-length-2
