@@ -7,7 +7,7 @@ use lib.ListN.{length, getD, set}
 use lib.Seq.{sets, set-set}
 use Rattle.laws.specs.Range.{joinTo}
 use Rattle.laws.specs.Values.{listTo}
-use Rattle.laws.proofs.Values.{list-next, length-list, list-at, laid-all, laid-change}
+use Rattle.laws.proofs.Values.{list-next, length-list, list-at, list-change}
 use Rattle.laws.proofs.Writes.{sets-append, sets-at, set-before}
 
 -- a store inside a run of writes
@@ -37,8 +37,4 @@ module _ {A : Type 0} (room : List A) (at : ℕ) where
 
   -- one value changed, there and nowhere else
   pub run-change : (n i : ℕ) (f g : ℕ → A) → i < n → ((k : ℕ) → (k ≡ i → ⊥) → g k ≡ f k) → set (sets room at (listTo n f)) (at + i) (g i) ≡ sets room at (listTo n g)
-  run-change n i f g l others =
-      let same : length (listTo n f) ≡ n = length-list n f in
-      sets-inside room at i (listTo n f) (g i) (omega arith)
-      ∙ ap (sets room at)
-      (ap (λ xs. set xs i (g i)) (sym (laid-all n f (listTo n f) (sym same))) ∙ laid-change n i f g (listTo n f) l others ∙ laid-all n g (listTo n f) (sym same))
+  run-change n i f g l others = sets-inside room at i (listTo n f) (g i) (omega (arith, length-list n f)) ∙ ap (sets room at) (list-change n i f g l others)

@@ -5,12 +5,12 @@ use Prim.Native.Nat.{ℕ, zero, suc, _+_, _<_}
 use native.Mathlib.Decide.{decLt, ℕ-discrete}
 use native.Mathlib.Omega.{arith}
 use lib.ListN.{length, getD, set, drop, length-append, length-set, List·getD-append}
-use lib.Seq.{getD-at, drop-length, ext-getD, set-append-left, getD-set-same, getD-set-other}
+use lib.Seq.{getD-at, ext-getD, set-append-left, getD-set-same, getD-set-other}
 use Rattle.laws.specs.Range.{joinTo}
 use Rattle.laws.specs.Room.{laid}
 use Rattle.laws.specs.Values.{listTo}
 use Rattle.laws.proofs.Ranges.{join-next, join-cong, flat-join}
-use Rattle.laws.proofs.Rooms.{laid-next, laid-front}
+use Rattle.laws.proofs.Rooms.{laid-next, laid-front, laid-whole}
 
 module _ {A : Type 0} where
   pub list-next : (n : ℕ) (f : ℕ → A) → listTo (n + 1) f ≡ listTo n f ++ (f n ∷ [])
@@ -54,14 +54,13 @@ module _ {A : Type 0} where
       ∙ ap (λ xs. laid xs room) (sym (list-next n f))
 
   pub laid-all : (n : ℕ) (f : ℕ → A) (room : List A) → n ≡ length room → laid (listTo n f) room ≡ listTo n f
-  unfolding laid
-  laid-all n f room e = rw (length-list n f, e, drop-length) (append-nil (listTo (length room) f))
+  laid-all n f room e = laid-whole (listTo n f) room (length-list n f ∙ e)
 
   pub laid-at : (n i : ℕ) (f : ℕ → A) (room : List A) (d : A) → i < n → getD (laid (listTo n f) room) i d ≡ f i
   laid-at n i f room d l = laid-front (listTo n f) room i d (omega (arith, length-list n f)) ∙ list-at n i f d l
 
   -- one value changed, there and nowhere else
-  list-change : (n i : ℕ) (f g : ℕ → A) → i < n → ((k : ℕ) → (k ≡ i → ⊥) → g k ≡ f k) → set (listTo n f) i (g i) ≡ listTo n g
+  pub list-change : (n i : ℕ) (f g : ℕ → A) → i < n → ((k : ℕ) → (k ≡ i → ⊥) → g k ≡ f k) → set (listTo n f) i (g i) ≡ listTo n g
   list-change n i f g l h =
       ext-getD (g i) (set (listTo n f) i (g i)) (listTo n g) (length-set (listTo n f) i (g i) ∙ length-list n f ∙ sym (length-list n g)) same
     where
