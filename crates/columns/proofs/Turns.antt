@@ -13,11 +13,11 @@ use Rattle.laws.proofs.Parts.{sets-again}
 use Rattle.mesh.proofs.Places.{near-place, within-any}
 use Rattle.columns.specs.declared.ways.Way.{Way}
 use Rattle.columns.specs.declared.ways.Way.the-variants.{Greatest, Count}
-use Rattle.columns.specs.Room.{columnAt, pointsIn, marksIn, StandsIn, pointNumber, triangleNumber}
+use Rattle.columns.specs.Room.{columnAt, pointsIn, marksIn, StandsIn, ShellsStand, pointNumber, triangleNumber}
 use Rattle.columns.specs.Columns.{wayOf, worthOf, startBy, putAt, columnTo}
 use Rattle.columns.specs.Turns.{PointTurn, TriangleTurn}
 use Rattle.columns.proofs.Gathering.{columnAfter, none-put, put-here, more-put, had, count-small, column-fits}
-use Rattle.columns.proofs.Rooms.{SameMesh, column-beside, still-stands, many-points, many-triangles, mesh-passed, few-shells, shells-inside, point-small, corner-small, triangle-small}
+use Rattle.columns.proofs.Rooms.{SameShells, SameMesh, column-beside, still-stands, many-points, mesh-passed, shells-stand, shells-inside, point-small, few-shells, corner-small, triangle-small}
 
 -- ---- what a point brings is a word, where the greatest of it is sought
 small-if : (b : Bool) {x y m : ℕ} → x < m → y < m → cond b x y < m
@@ -33,6 +33,9 @@ module _ (shells v t : ℕ) (room : List ℕ) where
   trianglesAfter k = columnAfter Count (triangleNumber v t room) (λ i. 0) room (columnAt v t) shells k
 
 module _ (shells v t : ℕ) (room : List ℕ) (S : StandsIn shells v t room) where
+  stand : ShellsStand shells v t room
+  stand = shells-stand shells v t room S
+
   words : (kind : ℕ) → wayOf kind ≡ Greatest → (i : ℕ) → worthOf kind (pointsIn v room) (marksIn v room) i < 2 ^ 32
   unfolding worthOf
   words zero e i = let z : _≡_ {A = ℕ} 0 1 = cc in absurd (omega arith)
@@ -68,7 +71,7 @@ module _ (shells v t : ℕ) (room : List ℕ) (S : StandsIn shells v t room) whe
     unfolding listTo
     points-ended kind j =
         again (columnTo (wayOf kind) (pointNumber v t filled) (worthOf kind (pointsIn v filled) (marksIn v filled)) j)
-        ∙ rw (same-begun .points, same-begun .marks, same-begun .numbers)
+        ∙ rw (same-begun .beside .points, same-begun .marks, same-begun .beside .numbers)
 
     pub triangles-begun : x ≡ 0 → filled ≡ trianglesAfter shells v t filled 0
     triangles-begun is =
@@ -79,7 +82,7 @@ module _ (shells v t : ℕ) (room : List ℕ) (S : StandsIn shells v t room) whe
 
     pub triangles-ended : (k : ℕ) → trianglesAfter shells v t filled k ≡ trianglesAfter shells v t room k
     unfolding listTo
-    triangles-ended k = again (columnTo Count (triangleNumber v t filled) (λ i. 0) k) ∙ rw (same-begun .triangles, same-begun .numbers)
+    triangles-ended k = again (columnTo Count (triangleNumber v t filled) (λ i. 0) k) ∙ rw (same-begun .beside .triangles, same-begun .beside .numbers)
 
   module _ (kind j : ℕ) (small : j < v) where
     same : SameMesh v t room (pointsAfter shells v t room kind j)
@@ -90,40 +93,40 @@ module _ (shells v t : ℕ) (room : List ℕ) (S : StandsIn shells v t room) whe
         let mesh = mesh-passed shells v t room S in
         let n = point-small shells v t room S j small in
         record {
-          whole = same .long ∙ S .whole;
+          whole = same .beside .long ∙ S .whole;
           few = omega (arith, many-points shells v t room S, mesh .few);
           small = small;
-          numbered = rw (same .numbers) (omega (arith, n, few-shells shells v t room S));
+          numbered = rw (same .beside .numbers) (omega (arith, n, few-shells shells v t room stand));
           fits =
-              rw (same .points, same .marks, same .numbers, put-here (wayOf kind) (pointNumber v t room) (worthOf kind (pointsIn v room) (marksIn v room)) room (columnAt v t) shells (shells-inside shells v t room S) j n)
+              rw (same .beside .points, same .marks, same .beside .numbers, put-here (wayOf kind) (pointNumber v t room) (worthOf kind (pointsIn v room) (marksIn v room)) room (columnAt v t) shells (shells-inside shells v t room S) j n)
               (column-fits (wayOf kind) (pointNumber v t room) (worthOf kind (pointsIn v room) (marksIn v room)) (words kind) (j + 1) (pointNumber v t room j) (omega (arith, many-points shells v t room S, mesh .few)));
         }
 
     pub point-put : {way : Way} {now after : List ℕ} → way ≡ wayOf kind → now ≡ pointsAfter shells v t room kind j
         → after ≡ putAt way (columnAt v t + pointNumber v t now j) (worthOf kind (pointsIn v now) (marksIn v now) j) now → after ≡ pointsAfter shells v t room kind (j + 1)
     point-put is-way is-now is-after =
-        rw (is-after, is-way, is-now, same .points, same .marks, same .numbers)
+        rw (is-after, is-way, is-now, same .beside .points, same .marks, same .beside .numbers)
         (more-put (wayOf kind) (pointNumber v t room) (worthOf kind (pointsIn v room) (marksIn v room)) room (columnAt v t) shells (shells-inside shells v t room S) j (point-small shells v t room S j small))
 
   module _ (k : ℕ) (small : k < t) where
-    same-mesh : SameMesh v t room (trianglesAfter shells v t room k)
-    same-mesh = column-beside shells v t room S (columnTo Count (triangleNumber v t room) (λ i. 0) k)
+    same-shells : SameShells v t room (trianglesAfter shells v t room k)
+    same-shells = column-beside shells v t room S (columnTo Count (triangleNumber v t room) (λ i. 0) k) .beside
 
     pub triangle-turn : TriangleTurn v t (trianglesAfter shells v t room k) k
     triangle-turn =
-        let n = triangle-small shells v t room S k small in
+        let n = triangle-small shells v t room stand k small in
         record {
-          whole = same-mesh .long ∙ S .whole;
+          whole = same-shells .long ∙ S .whole;
           small = small;
-          named = rw (same-mesh .triangles) (corner-small shells v t room S k small);
-          numbered = rw (same-mesh .triangles, same-mesh .numbers) (omega (arith, n, few-shells shells v t room S));
+          named = rw (same-shells .triangles) (corner-small shells v t room stand k small);
+          numbered = rw (same-shells .triangles, same-shells .numbers) (omega (arith, n, few-shells shells v t room stand));
           fits =
-              rw (same-mesh .triangles, same-mesh .numbers, had Count (triangleNumber v t room) (λ i. 0) room (columnAt v t) shells (shells-inside shells v t room S) k n)
-              (omega (arith, count-small (triangleNumber v t room) (λ i. 0) k (triangleNumber v t room k), mesh-passed shells v t room S .triangles-few, many-triangles shells v t room S));
+              rw (same-shells .triangles, same-shells .numbers, had Count (triangleNumber v t room) (λ i. 0) room (columnAt v t) shells (shells-inside shells v t room S) k n)
+              (omega (arith, count-small (triangleNumber v t room) (λ i. 0) k (triangleNumber v t room k), stand .few));
         }
 
     pub triangle-put : {now after : List ℕ} → now ≡ trianglesAfter shells v t room k → after ≡ putAt Count (columnAt v t + triangleNumber v t now k) 0 now
         → after ≡ trianglesAfter shells v t room (k + 1)
     triangle-put is-now is-after =
-        rw (is-after, is-now, same-mesh .triangles, same-mesh .numbers)
-        (more-put Count (triangleNumber v t room) (λ i. 0) room (columnAt v t) shells (shells-inside shells v t room S) k (triangle-small shells v t room S k small))
+        rw (is-after, is-now, same-shells .triangles, same-shells .numbers)
+        (more-put Count (triangleNumber v t room) (λ i. 0) room (columnAt v t) shells (shells-inside shells v t room S) k (triangle-small shells v t room stand k small))

@@ -1,11 +1,13 @@
 -- The reader's work room for v points and t triangles, and what stands in its parts.
 use mathlib.Core.Path.{_≡_}
 use mathlib.Core.List.{List}
-use Prim.Native.Nat.{ℕ, _+_, _*_}
+use mathlib.Core.Bool.{true}
+use Prim.Native.Nat.{ℕ, _+_, _*_, _≤_}
 use lib.ListN.{length}
 use Rattle.laws.specs.Part.{partOf}
+use Rattle.grid.specs.Limits.{mostCoordinate, mostTriangles}
 use Rattle.mesh.specs.Mesh.{triangleAt, trianglesOf}
-use Rattle.mesh.specs.Check.{meshNumber}
+use Rattle.mesh.specs.Check.{meshNumber, trianglesFit, allWithin}
 use Rattle.records.specs.declared.Shell.{Shell}
 use Rattle.records.specs.Record.{recordOf}
 use Rattle.shellnumbers.specs.Numbering.{numberOf, Numbering}
@@ -43,6 +45,14 @@ numbersIn v t work = partOf (numbersAt v t) v work
 pub record StandsIn (shells v t : ℕ) (work : List ℕ) : Type 0 where
   pub whole : length work ≡ workLength v t
   pub passes : meshNumber (pointsIn v work) (trianglesIn v t work) (marksIn v work) ≡ 0
+  pub numbered : Numbering (trianglesOf (trianglesIn v t work)) v (numbersIn v t work) shells
+
+-- points within the limit, triangles that name them and the shell numbers of the points stand in the room; of the part of the marks nothing is said
+pub record ShellsStand (shells v t : ℕ) (work : List ℕ) : Type 0 where
+  pub whole : length work ≡ workLength v t
+  pub few : t ≤ mostTriangles
+  pub near : allWithin mostCoordinate (pointsIn v work) ≡ true
+  pub corners : trianglesFit (trianglesIn v t work) v ≡ true
   pub numbered : Numbering (trianglesOf (trianglesIn v t work)) v (numbersIn v t work) shells
 
 -- the shell number of point i, and that of triangle k, by its first corner

@@ -12,16 +12,13 @@ use Rattle.laws.specs.Part.{partOf}
 use Rattle.laws.proofs.Parts.{length-part, put-back, part-written, sets-again}
 use Rattle.mesh.specs.Mesh.{trianglesOf}
 use Rattle.sets.specs.Sets.{Falling, isRoot, rankOf}
-use Rattle.roomsets.specs.Parts.{Unitable, UnitedWithin}
+use Rattle.roomsets.specs.Parts.{UnitedWithin}
 use Rattle.shellnumbers.specs.Numbering.{Numbering}
 use Rattle.shellnumbers.proofs.Numbered.{numbered}
 use Rattle.columns.specs.Room.{trianglesAt, numbersAt}
 use Rattle.roommesh.specs.Numbered.{Numberable, ShellsNumbered}
 
 module _ (v t : ℕ) (old : List ℕ) (fit : Numberable v t old) where
-  pub unitable : Unitable (trianglesAt v) t (numbersAt v t) v old
-  unitable = record { in-front = omega arith; inside = omega (arith, fit .whole); few = fit .few; corners = fit .corners }
-
   module _ (room : List ℕ) (u : UnitedWithin (trianglesAt v) t (numbersAt v t) v old room) where
     abbrev base : ℕ
     base = numbersAt v t

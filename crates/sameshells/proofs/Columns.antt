@@ -7,13 +7,13 @@ use native.Mathlib.Omega.{arith}
 use lib.ListN.{length, getD}
 use lib.Seq.{sets, length-sets}
 use Rattle.laws.specs.Values.{listTo}
-use Rattle.laws.proofs.Values.{length-list, list-at, list-cong}
-use Rattle.laws.proofs.Writes.{sets-at}
+use Rattle.laws.proofs.Values.{length-list, list-cong}
 use Rattle.laws.proofs.Parts.{sets-over}
+use Rattle.laws.proofs.Runs.{run-at}
 use Rattle.records.specs.declared.Shell.{Shell}
 use Rattle.columns.specs.Room.{columnAt, StandsIn, recordIn}
 use Rattle.columns.specs.Columns.{fieldOf}
-use Rattle.columns.proofs.Rooms.{SameMesh, column-leaves, still-stands, shells-inside}
+use Rattle.columns.proofs.Rooms.{SameMesh, column-leaves, still-stands, same-records, shells-inside}
 use Rattle.sameshells.specs.Same.{Decides, SameColumn, SameField, ColumnLeft}
 
 module _ (shells v t : ℕ) (old : List ℕ) (stands : StandsIn shells v t old) where
@@ -34,7 +34,7 @@ module _ (shells v t : ℕ) (old : List ℕ) (stands : StandsIn shells v t old) 
     stands-left = still-stands shells v t old work same-left stands
 
     pub same-record : (n : ℕ) → recordIn v t work n ≡ recordIn v t old n
-    same-record n = rw (same-left .points, same-left .marks, same-left .triangles, same-left .numbers)
+    same-record n = same-records v t old work same-left n
 
     -- a column more
     module _ (kind : ℕ) (after : List ℕ) (g : after ≡ sets work (columnAt v t) (listTo shells (λ n. fieldOf kind (recordIn v t work n)))) where
@@ -54,8 +54,7 @@ module _ (shells v t : ℕ) (old : List ℕ) (stands : StandsIn shells v t old) 
 
       column-at : (n : ℕ) → n < shells → getD after (columnAt v t + n) 0 ≡ fieldOf kind (recordIn v t old n)
       column-at n l =
-          let long = length-list shells (λ n. fieldOf kind (recordIn v t old n)) in
-          ap (λ r. getD r (columnAt v t + n) 0) after-is ∙ sets-at old (columnAt v t) fields n 0 (omega (arith, long, inside)) (omega (arith, long)) ∙ list-at shells n (λ n. fieldOf kind (recordIn v t old n)) 0 l
+          ap (λ r. getD r (columnAt v t + n) 0) after-is ∙ run-at old (columnAt v t) shells n (λ n. fieldOf kind (recordIn v t old n)) 0 inside l
 
       -- the answer on the column is the answer on the field
       module _ (said : List Shell) (r : Bool) (d : Decides r (SameColumn said shells kind after (columnAt v t))) where

@@ -12,11 +12,11 @@ use Rattle.records.specs.declared.Shell.{Shell}
 use Rattle.records.specs.Grown.{none, mostVolume}
 use Rattle.shelllines.specs.ShellLines.{shellText}
 use Rattle.reading.proofs.Following.{lines-read}
-use Rattle.columns.specs.Room.{StandsIn, recordIn, pointsIn, trianglesIn}
+use Rattle.columns.specs.Room.{StandsIn, ShellsStand, recordIn, pointsIn, trianglesIn}
 use Rattle.columns.specs.Columns.{fieldOf}
-use Rattle.columns.proofs.Rooms.{few-shells}
-use Rattle.volumes.specs.Volumes.{ShellsStand, volumeIn, storedVolume, wordsIn, volumeRead, allWords}
-use Rattle.volumes.proofs.Volumes.{shells-stand, volume-is, volume-back, words-fit}
+use Rattle.columns.proofs.Rooms.{few-shells, shells-stand}
+use Rattle.volumes.specs.Volumes.{volumeIn, storedVolume, wordsIn, volumeRead, allWords}
+use Rattle.volumes.proofs.Volumes.{volume-is, volume-back, words-fit}
 use Rattle.volumes.proofs.Words.{words-leave}
 use Rattle.meshread.specs.Lines.{readShell}
 use Rattle.meshread.proofs.Lines.{ShellFits, shell-exact}
@@ -64,7 +64,7 @@ module _ (input : List ℕ) (from shells : ℕ) (there : LinesThere input from s
 -- the room after the columns, and after the volumes
 module _ (shells v t : ℕ) (old : List ℕ) (stands : StandsIn shells v t old) (work : List ℕ) (left : ColumnLeft v t shells old work) where
   pub left-mesh : MeshLeft v t old work
-  left-mesh = let s = same-left shells v t old stands work left in record { points = s .points; triangles = s .triangles }
+  left-mesh = let s = same-left shells v t old stands work left in record { points = s .beside .points; triangles = s .beside .triangles }
 
   pub volumes-stand : ShellsStand shells v t work
   volumes-stand = shells-stand shells v t work (stands-left shells v t old stands work left)
@@ -73,7 +73,7 @@ module _ (shells v t : ℕ) (old : List ℕ) (stands : StandsIn shells v t old) 
     pub words-there : WordsThere shells v t after
     words-there =
         let s = volumes-stand in
-        let few = few-shells shells v t old stands in
+        let few = few-shells shells v t work volumes-stand in
         record {
           whole = ap length e ∙ words-leave v t shells work (s .whole) few (λ n. storedVolume (volumeIn v t work n)) .long ∙ s .whole;
           few = few;
@@ -87,5 +87,5 @@ module _ (shells v t : ℕ) (old : List ℕ) (stands : StandsIn shells v t old) 
 
     pub mesh-left : MeshLeft v t old after
     mesh-left =
-        let s = words-leave v t shells work (volumes-stand .whole) (few-shells shells v t old stands) (λ n. storedVolume (volumeIn v t work n)) in
+        let s = words-leave v t shells work (volumes-stand .whole) (few-shells shells v t work volumes-stand) (λ n. storedVolume (volumeIn v t work n)) in
         record { points = ap (pointsIn v) e ∙ s .points ∙ left-mesh .points; triangles = ap (trianglesIn v t) e ∙ s .triangles ∙ left-mesh .triangles }

@@ -2,10 +2,9 @@
 use mathlib.Core.Path.{_≡_, refl, ap, sym, _∙_}
 use mathlib.Core.List.{List}
 use mathlib.Core.Bool.{Bool}
-use Prim.Native.Nat.{ℕ, _+_, _*_, _-_, _<_, _≤_}
+use Prim.Native.Nat.{ℕ, _+_, _*_, _<_, _≤_}
 use native.Mathlib.Omega.{arith}
 use lib.Dec.{eqb}
-use lib.ListN.{length}
 use lib.IntN.{ℤ, natAbs, _+ℤ_}
 use borrow.Author.Tests.{eq-eqb, ne-eqb}
 use Rattle.laws.specs.Range.{keepTo, joinTo}
@@ -13,22 +12,19 @@ use Rattle.laws.specs.Signed.{sumOfℤ}
 use Rattle.laws.proofs.Differences.{sum-appendℤ}
 use Rattle.laws.proofs.Keep.{length-keep}
 use Rattle.laws.proofs.Ranges.{count-le, keep-cong}
-use Rattle.laws.proofs.Parts.{length-part}
 use Rattle.mesh.specs.Mesh.{triangleCount, triangleAt}
-use Rattle.mesh.proofs.Passed.{corners}
 use Rattle.shellnumbers.specs.Numbering.{numberOf}
 use Rattle.records.specs.Record.{determinant, sixfold, namesUnder, trianglesUnder, recordFrom}
 use Rattle.records.specs.Grown.{mostVolume}
 use Rattle.records.proofs.OneNumber.{one-number}
 use Rattle.records.proofs.Within.{sum-within}
-use Rattle.shelllist.proofs.Few.{no-more-than-points}
-use Rattle.columns.specs.Room.{marksAt, trianglesAt, workLength, pointsIn, marksIn, trianglesIn, numbersIn, StandsIn, triangleNumber, recordIn}
+use Rattle.columns.specs.Room.{pointsIn, trianglesIn, numbersIn, ShellsStand, triangleNumber, recordIn}
 use Rattle.columns.proofs.Gathering.{keep-more, keep-same}
-use Rattle.columns.proofs.Rooms.{mesh-passed, many-points, many-triangles}
-use Rattle.volumes.specs.Volumes.{volumeIn, storedVolume, wordsIn, withWords, allWords, volumeRead, ShellsStand}
+use Rattle.columns.proofs.Rooms.{SameShells, shells-still-stand, many-triangles, few-shells, triangle-small}
+use Rattle.volumes.specs.Volumes.{volumeIn, storedVolume, wordsIn, withWords, allWords, volumeRead}
 use Rattle.volumes.specs.Turns.{gainOf, lossOf, changed, VolumeTurn}
 use Rattle.laws.proofs.Raised.{raised-small, raised-more, read-back}
-use Rattle.volumes.proofs.Words.{SameShells, words-leave, words-again, words-cong, words-read, words-change}
+use Rattle.volumes.proofs.Words.{words-leave, words-again, words-cong, words-read, words-change}
 
 -- what the determinants of the first k triangles are together, of those that have number n by their first corner
 abbrev pub sumsOf : List ℕ → List ℕ → List ℕ → ℕ → ℕ → ℤ
@@ -57,16 +53,8 @@ module _ (shells v t : ℕ) (room : List ℕ) (S : ShellsStand shells v t room) 
   abbrev sums : ℕ → ℕ → ℤ
   sums = sumsOf (pointsIn v room) (trianglesIn v t room) (numbersIn v t room)
 
-  count : triangleCount (trianglesIn v t room) ≡ t
-  count = omega (arith, length-part room (trianglesAt v) (3 * t) (omega (arith, S .whole)))
-
-  pub few-shells : shells ≤ v
-  few-shells =
-      let long = length-part room (marksAt v) v (omega (arith, S .whole)) in
-      omega (arith, long, no-more-than-points (pointsIn v room) (trianglesIn v t room) (marksIn v room) (numbersIn v t room) shells (rw long (S .numbered)))
-
-  number-small : (k : ℕ) → k < t → triangleNumber v t room k < shells
-  number-small k l = S .numbered .small _ (corners (trianglesIn v t room) v k (S .corners) (omega (arith, count)) .first)
+  few : shells ≤ v
+  few = few-shells shells v t room S
 
   -- no volume is beyond the bound
   within : (k n : ℕ) → k ≤ t → natAbs (sums k n) ≤ mostVolume
@@ -80,7 +68,7 @@ module _ (shells v t : ℕ) (room : List ℕ) (S : ShellsStand shells v t room) 
     n = triangleNumber v t room k
 
     leave : SameShells v t room (volumesAfter shells v t room k)
-    leave = words-leave v t shells room (S .whole) few-shells (λ i. storedVolume (sums k i))
+    leave = words-leave v t shells room (S .whole) few (λ i. storedVolume (sums k i))
 
     more : storedVolume (sums (k + 1) n) + lossOf (pointsIn v room) (triangleAt (trianglesIn v t room) k)
         ≡ storedVolume (sums k n) + gainOf (pointsIn v room) (triangleAt (trianglesIn v t room) k)
@@ -96,7 +84,7 @@ module _ (shells v t : ℕ) (room : List ℕ) (S : ShellsStand shells v t room) 
     stored-small = raised-small mostVolume (sums k n) (within k n (omega arith))
 
     stored : wordsIn v t (volumesAfter shells v t room k) n ≡ storedVolume (sums k n)
-    stored = words-read v t shells room (S .whole) few-shells n (number-small k small) (λ i. storedVolume (sums k i))
+    stored = words-read v t shells room (S .whole) few n (triangle-small shells v t room S k small) (λ i. storedVolume (sums k i))
 
     pub volume-turn : VolumeTurn v t (volumesAfter shells v t room k) k
     volume-turn =
@@ -105,7 +93,7 @@ module _ (shells v t : ℕ) (room : List ℕ) (S : ShellsStand shells v t room) 
           near = rw (leave .points) (S .near);
           corners = rw (leave .triangles) (S .corners);
           small = small;
-          numbered = rw (leave .triangles, leave .numbers) (omega (arith, number-small k small, few-shells));
+          numbered = rw (leave .triangles, leave .numbers) (omega (arith, triangle-small shells v t room S k small, few));
           fits = rw (leave .points, leave .triangles, leave .numbers, stored) (record { most = stored-small; least = omega (arith, more) });
         }
 
@@ -115,26 +103,19 @@ module _ (shells v t : ℕ) (room : List ℕ) (S : ShellsStand shells v t room) 
     volume-put is-now is-after =
         let e : changed (pointsIn v room) (triangleAt (trianglesIn v t room) k) (storedVolume (sums k n)) ≡ storedVolume (sums (k + 1) n) = omega (arith, more) in
         rw (is-after, is-now, leave .points, leave .triangles, leave .numbers, stored, e)
-        (words-change v t shells room (S .whole) few-shells n (number-small k small) (λ i. storedVolume (sums k i)) (λ i. storedVolume (sums (k + 1) i))
+        (words-change v t shells room (S .whole) few n (triangle-small shells v t room S k small) (λ i. storedVolume (sums k i)) (λ i. storedVolume (sums (k + 1) i))
         (λ i d. ap storedVolume (sum-else (pointsIn v room) (trianglesIn v t room) (numbersIn v t room) k i d)))
 
   -- ---- the words that stand there at first, and those of all triangles
   module _ (filled : List ℕ) (e : filled ≡ allWords v t shells (λ n. mostVolume) room) where
     same : SameShells v t room filled
-    same = rw e (words-leave v t shells room (S .whole) few-shells (λ n. mostVolume))
+    same = rw e (words-leave v t shells room (S .whole) few (λ n. mostVolume))
 
     pub begun : ShellsStand shells v t filled
-    begun =
-        record {
-          whole = same .long ∙ S .whole;
-          few = S .few;
-          near = rw (same .points) (S .near);
-          corners = rw (same .triangles) (S .corners);
-          numbered = rw (same .triangles, same .numbers) (S .numbered);
-        }
+    begun = shells-still-stand shells v t room filled same S
 
     again : (f : ℕ → ℕ) → allWords v t shells f filled ≡ allWords v t shells f room
-    again f = rw e (words-again v t shells room (S .whole) few-shells (λ n. mostVolume) f)
+    again f = rw e (words-again v t shells room (S .whole) few (λ n. mostVolume) f)
 
     none : (points triangles numbers : List ℕ) (n : ℕ) → storedVolume (sumsOf points triangles numbers 0 n) ≡ mostVolume
     unfolding storedVolume sumOfℤ keepTo joinTo
@@ -160,7 +141,7 @@ module _ (shells v t : ℕ) (room : List ℕ) (S : ShellsStand shells v t room) 
       let ts = trianglesIn v t room in
       let by-first : ℕ → Bool = λ k. eqb (triangleNumber v t room k) n in
       let named : ℕ → Bool = λ k. namesUnder (numbersIn v t room) n (triangleAt ts k) in
-      ap (λ m. sums m n) (sym count)
+      ap (λ m. sums m n) (sym (many-triangles shells v t room S))
       ∙ ap (sumOfℤ (λ k. sixfold (pointsIn v room) (triangleAt ts k)))
       (keep-cong (triangleCount ts) by-first named (λ k l. sym (one-number ts (numbersIn v t room) v shells (S .corners) (S .numbered) n k l)))
 
@@ -177,14 +158,7 @@ module _ (shells v t : ℕ) (room : List ℕ) (S : ShellsStand shells v t room) 
     after = allWords v t shells (λ i. storedVolume (volumeIn v t room i)) room
 
     words-stored : wordsIn v t after n ≡ storedVolume (volumeIn v t room n)
-    words-stored = words-read v t shells room (S .whole) few-shells n small (λ i. storedVolume (volumeIn v t room i))
-
-    -- what `volume_at` asks
-    pub shell-small : n < v
-    shell-small = omega (arith, small, few-shells)
-
-    pub after-whole : length after ≡ workLength v t
-    after-whole = words-leave v t shells room (S .whole) few-shells (λ i. storedVolume (volumeIn v t room i)) .long ∙ S .whole
+    words-stored = words-read v t shells room (S .whole) few n small (λ i. storedVolume (volumeIn v t room i))
 
     pub words-fit : wordsIn v t after n ≤ 2 * mostVolume
     unfolding storedVolume
@@ -198,16 +172,3 @@ module _ (shells v t : ℕ) (room : List ℕ) (S : ShellsStand shells v t room) 
 pub volume-is : (v t : ℕ) (room : List ℕ) (n : ℕ) → volumeIn v t room n ≡ recordIn v t room n .volume
 unfolding recordFrom
 volume-is v t room n = refl
-
--- where a mesh that passed stands with the shell numbers of its points, the volumes can be gathered
-module _ (shells v t : ℕ) (room : List ℕ) (S : StandsIn shells v t room) where
-  pub shells-stand : ShellsStand shells v t room
-  shells-stand =
-      let mesh = mesh-passed shells v t room S in
-      record {
-        whole = S .whole;
-        few = omega (arith, mesh .triangles-few, many-triangles shells v t room S);
-        near = mesh .coordinates-fit;
-        corners = rw (many-points shells v t room S) at (mesh .corners-fit);
-        numbered = S .numbered;
-      }

@@ -9,7 +9,8 @@ use Rattle.laws.specs.Values.{listTo}
 use Rattle.laws.proofs.Values.{length-list, list-cong}
 use Rattle.laws.proofs.Writes.{sets-before, set-before, sets-comm}
 use Rattle.laws.proofs.Parts.{part-before, part-behind, sets-again}
-use Rattle.columns.specs.Room.{marksAt, trianglesAt, numbersAt, columnAt, workLength, pointsIn, trianglesIn, numbersIn}
+use Rattle.columns.specs.Room.{marksAt, trianglesAt, numbersAt, columnAt, workLength}
+use Rattle.columns.proofs.Rooms.{SameShells}
 use Rattle.laws.proofs.Runs.{run-at, run-change}
 use Rattle.volumes.specs.Volumes.{highWord, lowWord, wordsIn, withWords, allWords}
 
@@ -19,13 +20,6 @@ words-cong v t shells room f g same =
     ap₂ (λ hs ls. sets (sets room (marksAt v) hs) (columnAt v t) ls)
     (list-cong shells (λ n. highWord (f n)) (λ n. highWord (g n)) (λ n l. ap highWord (same n l)))
     (list-cong shells (λ n. lowWord (f n)) (λ n. lowWord (g n)) (λ n l. ap lowWord (same n l)))
-
--- points, triangles and shell numbers are the same in two rooms
-pub record SameShells (v t : ℕ) (room after : List ℕ) : Type 0 where
-  pub long : length after ≡ length room
-  pub points : pointsIn v after ≡ pointsIn v room
-  pub triangles : trianglesIn v t after ≡ trianglesIn v t room
-  pub numbers : numbersIn v t after ≡ numbersIn v t room
 
 module _ (v t shells : ℕ) (room : List ℕ) (whole : length room ≡ workLength v t) (few : shells ≤ v) where
   -- the room with its high words

@@ -1,20 +1,15 @@
 -- The sixfold volumes of all shells, as the reader's work room holds them: two words a shell (document 02 (iii)).
-use mathlib.Core.Path.{_≡_}
 use mathlib.Core.List.{List}
-use mathlib.Core.Bool.{true}
-use Prim.Native.Nat.{ℕ, _+_, _*_, _/_, _%_, _^_, _≤_}
+use Prim.Native.Nat.{ℕ, _+_, _*_, _/_, _%_, _^_}
 use lib.IntN.{ℤ, pos, natAbs, _+ℤ_, _-ℤ_}
-use lib.ListN.{length, getD, set}
+use lib.ListN.{getD, set}
 use lib.Seq.{sets}
 use Rattle.laws.specs.Signed.{sumOfℤ}
 use Rattle.laws.specs.Values.{listTo}
-use Rattle.grid.specs.Limits.{mostCoordinate, mostTriangles}
-use Rattle.mesh.specs.Mesh.{triangleAt, trianglesOf}
-use Rattle.mesh.specs.Check.{trianglesFit, allWithin}
-use Rattle.shellnumbers.specs.Numbering.{Numbering}
+use Rattle.mesh.specs.Mesh.{triangleAt}
 use Rattle.records.specs.Record.{sixfold, trianglesUnder}
 use Rattle.records.specs.Grown.{mostVolume}
-use Rattle.columns.specs.Room.{marksAt, columnAt, workLength, pointsIn, trianglesIn, numbersIn}
+use Rattle.columns.specs.Room.{marksAt, columnAt, pointsIn, trianglesIn, numbersIn}
 
 -- the volume of shell n: what the determinants of its triangles are together
 abbrev pub volumeIn : ℕ → ℕ → List ℕ → ℕ → ℤ
@@ -46,11 +41,3 @@ allWords v t shells f work = sets (sets work (marksAt v) (listTo shells (λ n. h
 -- the volume that shell n's two words hold
 abbrev pub volumeRead : ℕ → ℕ → List ℕ → ℕ → ℤ
 volumeRead v t work n = pos (wordsIn v t work n) -ℤ pos mostVolume
-
--- points within the limit, triangles that name them and the shell numbers of the points stand in the room; of the part of the marks nothing is said
-pub record ShellsStand (shells v t : ℕ) (work : List ℕ) : Type 0 where
-  pub whole : length work ≡ workLength v t
-  pub few : t ≤ mostTriangles
-  pub near : allWithin mostCoordinate (pointsIn v work) ≡ true
-  pub corners : trianglesFit (trianglesIn v t work) v ≡ true
-  pub numbered : Numbering (trianglesOf (trianglesIn v t work)) v (numbersIn v t work) shells

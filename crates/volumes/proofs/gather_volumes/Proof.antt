@@ -4,8 +4,9 @@ use mathlib.Core.List.{List}
 use Prim.Native.Nat.{ℕ, _-_, _≤_}
 use native.Mathlib.Omega.{arith}
 use lib.Seq.{length-sets}
-use Rattle.volumes.specs.Volumes.{ShellsStand}
-use Rattle.volumes.proofs.Volumes.{volumesAfter, few-shells, volume-turn, volume-put, begun, volumes-begun, volumes-ended, volumes-all}
+use Rattle.columns.specs.Room.{ShellsStand}
+use Rattle.columns.proofs.Rooms.{few-shells}
+use Rattle.volumes.proofs.Volumes.{volumesAfter, volume-turn, volume-put, begun, volumes-begun, volumes-ended, volumes-all}
 use Rattle.volumes.proofs.gather_volumes.Statement.{statement}
 use Rattle.volumes.proofs.gather_volumes.Tie as tie
 
