@@ -29,7 +29,7 @@ use Rattle.columns.specs.declared.ways.Way.the-variants.{Count}
 use Rattle.columns.specs.Room.{columnAt, pointsIn, marksIn, trianglesIn, numbersIn, StandsIn, pointNumber, triangleNumber, recordIn}
 use Rattle.columns.specs.Columns.{fieldOf, wayOf, worthOf, columnTo}
 use Rattle.columns.proofs.Gathering.{counted}
-use Rattle.columns.proofs.Rooms.{many-points, many-triangles, shells-stand, marks-numbered}
+use Rattle.columns.proofs.Rooms.{many-points, many-triangles, marks-numbered}
 
 -- the last field
 pub last-field : (kind : ℕ) (s : Shell) → 8 < kind → s .triangles ≡ fieldOf kind s
@@ -137,13 +137,13 @@ module _ (shells v t : ℕ) (room : List ℕ) (S : StandsIn shells v t room) (ki
   points-fields few is =
       is
       ∙ ap (sets room (columnAt v t)) (list-cong shells _ _
-      (λ n l. ap (λ m. columnTo (wayOf kind) (pointNumber v t room) (worthOf kind (pointsIn v room) (marksIn v room)) m n) (sym (many-points shells v t room S))
+      (λ n l. ap (λ m. columnTo (wayOf kind) (pointNumber v t room) (worthOf kind (pointsIn v room) (marksIn v room)) m n) (sym (many-points v t room (S .whole)))
       ∙ points-column (pointsIn v room) (trianglesIn v t room) (marksIn v room) (numbersIn v t room) shells (S .passes) (marks-numbered shells v t room S) n l kind few))
 
   pub triangles-fields : {after : List ℕ} → 8 < kind → after ≡ sets room (columnAt v t) (listTo shells (columnTo Count (triangleNumber v t room) (λ k. 0) t)) → after ≡ filled
   triangles-fields last is =
       is
       ∙ ap (sets room (columnAt v t)) (list-cong shells _ _
-      (λ n l. ap (λ m. columnTo Count (triangleNumber v t room) (λ k. 0) m n) (sym (many-triangles shells v t room (shells-stand shells v t room S)))
+      (λ n l. ap (λ m. columnTo Count (triangleNumber v t room) (λ k. 0) m n) (sym (many-triangles v t room (S .whole)))
       ∙ triangles-column (pointsIn v room) (trianglesIn v t room) (marksIn v room) (numbersIn v t room) shells (S .passes) (marks-numbered shells v t room S) n l (λ k. 0)
       ∙ last-field kind (recordIn v t room n) last))

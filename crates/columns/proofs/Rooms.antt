@@ -13,7 +13,7 @@ use Rattle.mesh.specs.Mesh.{triangleCount, triangleAt, trianglesOf}
 use Rattle.mesh.proofs.Passed.{Passed, passed, corners}
 use Rattle.shellnumbers.specs.Numbering.{Numbering}
 use Rattle.shelllist.proofs.Few.{no-more-than-points}
-use Rattle.columns.specs.Room.{marksAt, trianglesAt, numbersAt, columnAt, pointsIn, marksIn, trianglesIn, numbersIn, StandsIn, ShellsStand, pointNumber, triangleNumber, recordIn}
+use Rattle.columns.specs.Room.{marksAt, trianglesAt, numbersAt, columnAt, workLength, pointsIn, marksIn, trianglesIn, numbersIn, StandsIn, ShellsStand, pointNumber, triangleNumber, recordIn}
 
 module _ (v : ℕ) (work : List ℕ) where
   -- where a coordinate and a mark stand
@@ -78,41 +78,42 @@ still-stands shells v t room after same S =
 pub same-records : (v t : ℕ) (room after : List ℕ) → SameMesh v t room after → (n : ℕ) → recordIn v t after n ≡ recordIn v t room n
 same-records v t room after same n = rw (same .beside .points, same .beside .triangles, same .marks, same .beside .numbers)
 
-module _ (shells v t : ℕ) (work : List ℕ) (S : ShellsStand shells v t work) where
-  pub many-triangles : triangleCount (trianglesIn v t work) ≡ t
-  many-triangles = omega (arith, length-part work (trianglesAt v) (3 * t) (omega (arith, S .whole)))
+-- as many marks and triangles as there is room for
+module _ (v t : ℕ) (work : List ℕ) (whole : length work ≡ workLength v t) where
+  pub many-points : length (marksIn v work) ≡ v
+  many-points = length-part work (marksAt v) v (omega arith)
 
+  pub many-triangles : triangleCount (trianglesIn v t work) ≡ t
+  many-triangles = omega (arith, length-part work (trianglesAt v) (3 * t) (omega arith))
+
+module _ (shells v t : ℕ) (work : List ℕ) (S : ShellsStand shells v t work) where
   -- a shell has its place in the column
   pub few-shells : shells ≤ v
   few-shells =
-      let long = length-part work (marksAt v) v (omega (arith, S .whole)) in
+      let long = many-points v t work (S .whole) in
       omega (arith, long, no-more-than-points (pointsIn v work) (trianglesIn v t work) (marksIn v work) (numbersIn v t work) shells (rw long (S .numbered)))
 
   -- every triangle has a shell
   pub corner-small : (k : ℕ) → k < t → triangleAt (trianglesIn v t work) k .one < v
-  corner-small k l = corners (trianglesIn v t work) v k (S .corners) (omega (arith, many-triangles)) .first
+  corner-small k l = corners (trianglesIn v t work) v k (S .corners) (omega (arith, many-triangles v t work (S .whole))) .first
 
   pub triangle-small : (k : ℕ) → k < t → triangleNumber v t work k < shells
   triangle-small k l = S .numbered .small _ (corner-small k l)
 
 module _ (shells v t : ℕ) (work : List ℕ) (S : StandsIn shells v t work) where
-  pub many-points : length (marksIn v work) ≡ v
-  many-points = length-part work (marksAt v) v (omega (arith, S .whole))
-
   pub mesh-passed : Passed (pointsIn v work) (trianglesIn v t work) (marksIn v work)
   mesh-passed = passed (pointsIn v work) (trianglesIn v t work) (marksIn v work) (S .passes)
 
   pub marks-numbered : Numbering (trianglesOf (trianglesIn v t work)) (length (marksIn v work)) (numbersIn v t work) shells
-  marks-numbered = rw many-points (S .numbered)
+  marks-numbered = rw (many-points v t work (S .whole)) (S .numbered)
 
   pub shells-stand : ShellsStand shells v t work
   shells-stand =
-      let count = length-part work (trianglesAt v) (3 * t) (omega (arith, S .whole)) in
       record {
         whole = S .whole;
-        few = omega (arith, mesh-passed .triangles-few, count);
+        few = omega (arith, mesh-passed .triangles-few, many-triangles v t work (S .whole));
         near = mesh-passed .coordinates-fit;
-        corners = rw many-points at (mesh-passed .corners-fit);
+        corners = rw (many-points v t work (S .whole)) at (mesh-passed .corners-fit);
         numbered = S .numbered;
       }
 

@@ -94,12 +94,12 @@ module _ (shells v t : ℕ) (room : List ℕ) (S : StandsIn shells v t room) whe
         let n = point-small shells v t room S j small in
         record {
           whole = same .beside .long ∙ S .whole;
-          few = omega (arith, many-points shells v t room S, mesh .few);
+          few = omega (arith, many-points v t room (S .whole), mesh .few);
           small = small;
           numbered = rw (same .beside .numbers) (omega (arith, n, few-shells shells v t room stand));
           fits =
               rw (same .beside .points, same .marks, same .beside .numbers, put-here (wayOf kind) (pointNumber v t room) (worthOf kind (pointsIn v room) (marksIn v room)) room (columnAt v t) shells (shells-inside shells v t room S) j n)
-              (column-fits (wayOf kind) (pointNumber v t room) (worthOf kind (pointsIn v room) (marksIn v room)) (words kind) (j + 1) (pointNumber v t room j) (omega (arith, many-points shells v t room S, mesh .few)));
+              (column-fits (wayOf kind) (pointNumber v t room) (worthOf kind (pointsIn v room) (marksIn v room)) (words kind) (j + 1) (pointNumber v t room j) (omega (arith, many-points v t room (S .whole), mesh .few)));
         }
 
     pub point-put : {way : Way} {now after : List ℕ} → way ≡ wayOf kind → now ≡ pointsAfter shells v t room kind j

@@ -1,3 +1,3 @@
--- The lines of the points read once more, and a list laid over the front of a room number by number.
+-- The lines of the points read once more; what was decided and filled is what the reader promises.
 pub mod Again
 pub mod Reading

@@ -9,9 +9,9 @@ use lib.Seq.{sets, length-sets}
 use Rattle.laws.specs.Values.{listTo}
 use Rattle.laws.proofs.Values.{length-list}
 use Rattle.laws.specs.Part.{partOf}
-use Rattle.laws.proofs.Parts.{length-part, part-written, part-before}
+use Rattle.laws.proofs.Parts.{part-written, part-before}
 use Rattle.mesh.specs.Check.{meshNumber, trianglesFit}
-use Rattle.mesh.specs.Mesh.{trianglesOf}
+use Rattle.mesh.specs.Mesh.{triangleCount, trianglesOf}
 use Rattle.mesh.proofs.Passed.{passed}
 use Rattle.shellnumbers.specs.Numbering.{Numbering}
 use Rattle.records.specs.declared.Shell.{Shell}
@@ -20,6 +20,7 @@ use Rattle.shelllines.specs.ShellLines.{shellText}
 use Rattle.reading.specs.Lined.{Lined, lined}
 use Rattle.reading.proofs.Following.{lines-read, lines-written}
 use Rattle.columns.specs.Room.{marksAt, trianglesAt, numbersAt, pointsIn, marksIn, trianglesIn, numbersIn, StandsIn, recordIn}
+use Rattle.columns.proofs.Rooms.{many-points, many-triangles}
 use Rattle.roommesh.specs.Numbered.{Numberable, ShellsNumbered}
 use Rattle.meshread.specs.Lines.{edgeOf, readShell}
 use Rattle.meshread.specs.Mesh.{Mesh, meshOf}
@@ -56,7 +57,7 @@ module _ (v t shells : ℕ) (input : List ℕ) (from next : ℕ) (old : List ℕ
   triangles-in = f .lines .triangles-there
 
   marks-long : length (marksIn v old) ≡ v
-  marks-long = length-part old (marksAt v) v (omega (arith, f .whole))
+  marks-long = many-points v t old (f .whole)
 
   -- the lines of the shells, read from line 0 on
   lines-0 : shellLines shells 0 (drop next input) ≡ lined (f .lines .shells) []
@@ -150,7 +151,7 @@ module _ (v t shells : ℕ) (input : List ℕ) (from next : ℕ) (old : List ℕ
           taken m refl (n .numbers) own numbered (sym records-at ∙ e ∙ sym (ap (λ k. listTo k (recordIn v t work)) same) ∙ own-is own) refl refl
           (record {
             many-points = sym (sym (ap length marks-in) ∙ marks-long);
-            many-triangles = let l : length (m .triangles) ≡ 3 * t = sym (ap length triangles-in) ∙ length-part old (trianglesAt v) (3 * t) (omega (arith, f .whole)) in omega arith;
+            many-triangles = sym (many-triangles v t old (f .whole)) ∙ ap triangleCount triangles-in;
             many-shells = sym records-long;
             behind = f .lines .behind;
             points-read = f .lines .points-read ∙ ap (λ vs. lined vs (f .lines .behind)) (sym (said-of (f .lines .points-read)));

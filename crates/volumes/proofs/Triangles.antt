@@ -4,13 +4,12 @@ use mathlib.Core.List.{List}
 use Prim.Native.Nat.{ℕ, _+_, _*_, _<_}
 use native.Mathlib.Omega.{arith}
 use lib.ListN.{getD}
-use Rattle.laws.proofs.Parts.{length-part}
 use Rattle.mesh.specs.Mesh.{triangleAt}
 use Rattle.mesh.specs.Place.{placeOf, Near}
 use Rattle.mesh.proofs.Places.{near-place}
 use Rattle.mesh.proofs.Passed.{Corners, corners}
 use Rattle.columns.specs.Room.{trianglesAt, numbersAt, pointsIn, trianglesIn, pointNumber, triangleNumber}
-use Rattle.columns.proofs.Rooms.{coordinate-at, corner-at, number-at}
+use Rattle.columns.proofs.Rooms.{coordinate-at, corner-at, number-at, many-triangles}
 use Rattle.volumes.specs.Volumes.{wordsIn}
 use Rattle.volumes.specs.Turns.{gainOf, lossOf, changed, cornersAt, Placed, Turnable, VolumeTurn}
 
@@ -34,7 +33,7 @@ module _ (v t : ℕ) (work : List ℕ) (k : ℕ) (T : VolumeTurn v t work k) whe
       rw (second, third, one, two, three)
 
   named : Corners v (triangleAt (trianglesIn v t work) k)
-  named = corners (trianglesIn v t work) v k (T .corners) (omega (arith, T .small, length-part work (trianglesAt v) (3 * t) (omega (arith, T .whole))))
+  named = corners (trianglesIn v t work) v k (T .corners) (omega (arith, T .small, many-triangles v t work (T .whole)))
 
   named-there : Corners v (cornersAt work at)
   named-there = subst (Corners v) (sym triangle-there) named

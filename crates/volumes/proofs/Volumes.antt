@@ -141,7 +141,7 @@ module _ (shells v t : ℕ) (room : List ℕ) (S : ShellsStand shells v t room) 
       let ts = trianglesIn v t room in
       let by-first : ℕ → Bool = λ k. eqb (triangleNumber v t room k) n in
       let named : ℕ → Bool = λ k. namesUnder (numbersIn v t room) n (triangleAt ts k) in
-      ap (λ m. sums m n) (sym (many-triangles shells v t room S))
+      ap (λ m. sums m n) (sym (many-triangles v t room (S .whole)))
       ∙ ap (sumOfℤ (λ k. sixfold (pointsIn v room) (triangleAt ts k)))
       (keep-cong (triangleCount ts) by-first named (λ k l. sym (one-number ts (numbersIn v t room) v shells (S .corners) (S .numbered) n k l)))
 
