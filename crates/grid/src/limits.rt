@@ -22,6 +22,9 @@ pub const MOST_COORDINATE: u32 = UNIT * (MOST_SIDE - 1);
 // The root's window ends at 2 to this power.
 pub const WINDOW_TO: u32 = 60;
 
+// And begins at 2 to this one.
+pub const WINDOW_FROM: u32 = WINDOW_TO - 2;
+
 pub const MOST_ROUNDS: u32 = 100;
 
 // The weight with which a point goes all the way to its neighbours' mean.

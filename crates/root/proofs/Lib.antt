@@ -1,4 +1,5 @@
--- Newton's steps, the window, and that the facts promised fix s and r, which the definitions work out.
-pub mod Newton
+-- The window and the steps into it, the digits of the root, and that the facts promised fix s and r, which the definitions work out.
 pub mod Window
+pub mod Steps
+pub mod Digit
 pub mod OneRoot

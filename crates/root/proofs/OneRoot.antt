@@ -1,19 +1,15 @@
 -- The facts promised fix s and r, and the definitions work out the s and the r that have them.
 use mathlib.Core.Bool.{Bool, true, false, cond}
 use mathlib.Core.Path.{_≡_, refl, sym, ap}
-use Prim.Native.Nat.{ℕ, zero, suc, _+_, _*_, _-_, _/_, _^_, _≤_, _<_}
-use native.Mathlib.Nat.{pow-suc, add-zero, pow-le-pow-right, mul-assoc, mul-one, mul-le-mul, mul-le-mul-left, mul-left-comm, lt-of-not-le}
-use native.Mathlib.Numerals.{add-one}
+use Prim.Native.Nat.{ℕ, zero, suc, _+_, _*_, _/_, _^_, _≤_, _<_}
+use native.Mathlib.Nat.{pow-suc, add-zero, pow-le-pow-right, mul-one, mul-le-mul, mul-le-mul-left, lt-of-not-le}
 use native.Mathlib.Omega.{arith}
 use lib.Dec.{leb}
 use borrow.Author.Tests.{leb-true, leb-false}
 use Rattle.grid.specs.Limits.{windowTo, windowFrom, rootDigits}
 use Rattle.root.specs.Root.{scaled, firstScale, scaleOf, nextRoot, rootBelow, rootOf}
 use Rattle.root.specs.Promise.{InWindow, WholeRoot, Rooted}
-
--- one more scaling is four times as much
-scaled-next : (n s : ℕ) → scaled n (s + 1) ≡ 4 * scaled n s
-scaled-next n s = let e : 4 ^ (s + 1) ≡ 4 ^ s * 4 = rw (add-one s, pow-suc 4 s) in rw e (omega (arith, mul-assoc n (4 ^ s) 4))
+use Rattle.root.proofs.Window.{scaled-next, four-squares}
 
 scaled-more : (n s t : ℕ) → s < t → 4 * scaled n s ≤ scaled n t
 scaled-more n s t h = omega (arith, scaled-next n s, mul-le-mul-left n (pow-le-pow-right {n = 4} (omega arith) {i = s + 1} {j = t} (omega arith)))
@@ -50,9 +46,6 @@ pub scale-in-window : (n : ℕ) → 0 < n → n < 2 ^ windowTo → InWindow n (s
 unfolding scaleOf
 scale-in-window n positive small =
     found (windowFrom / 2) 0 n (leb (2 ^ windowFrom) n) (ap (λ k. leb (2 ^ windowFrom) k) (mul-one n)) (omega arith) (omega arith)
-
-four-squares : (r : ℕ) → (2 * r) * (2 * r) ≡ 4 * (r * r)
-four-squares r = omega (arith, mul-assoc 2 r (2 * r), mul-left-comm r 2 r)
 
 -- one digit more of the root
 next-digit : (m r : ℕ) (b : Bool) → leb ((2 * r + 1) * (2 * r + 1)) m ≡ b → WholeRoot (m / 4) r → WholeRoot m (cond b (2 * r + 1) (2 * r))

@@ -1,12 +1,10 @@
--- The scaling that the leading zeros tell brings a number into the window.
-use mathlib.Core.Path.{_≡_, refl}
-use Prim.Native.Nat.{ℕ, zero, suc, _+_, _*_, _-_, _/_, _%_, _^_, _≤_, _<_}
-use native.Mathlib.Nat.{pow-suc, mul-le-mul-right, lt-of-lt-of-le, lt-of-not-le, le-trans, pow-le-pow-right, mod-eq-of-lt}
+-- Scaling: how far a number is scaled to be brought into the window.
+use mathlib.Core.Path.{_≡_, refl, sym, _∙_}
+use Prim.Native.Nat.{ℕ, zero, suc, _+_, _*_, _-_, _^_, _<_}
+use native.Mathlib.Nat.{pow-suc, mul-assoc, mul-comm, mul-left-comm, mul-le-mul-right, lt-of-not-le, pow-le-pow-right}
 use native.Mathlib.Omega.{arith}
-use lib.Count.{leadingZeros, leading-top}
-use lib.Pow.{pow-add, pow-mono, shl-lt}
-use Rattle.laws.specs.Bits.{wordBits}
-use Rattle.grid.specs.Limits.{windowTo, windowFrom, rootDigits}
+use lib.Pow.{pow-add}
+use Rattle.grid.specs.Limits.{windowTo, rootDigits}
 use Rattle.root.specs.Root.{scaled}
 use Rattle.root.specs.Promise.{InWindow}
 
@@ -16,40 +14,27 @@ four-power (suc s) =
     let e : 2 * suc s ≡ 2 * s + 2 = omega arith in
     rw (pow-suc 4 s, e, pow-add 2 (2 * s) 2, four-power s)
 
--- a number of j + 1 digits, scaled
-in-window : (n j s : ℕ) → 2 ^ j ≤ n → n < 2 ^ suc j → windowFrom ≤ j + 2 * s → suc j + 2 * s ≤ windowTo → InWindow n s
-in-window n j s low high from to =
-    record {
-      least =
-          rw (four-power s)
-          (le-trans (pow-mono from) (rw (pow-add 2 j (2 * s)) (mul-le-mul-right (2 ^ (2 * s)) low)));
-      most = rw (four-power s) (lt-of-lt-of-le (shl-lt (suc j) (2 * s) high) (pow-mono to));
-    }
+pub four-squares : (r : ℕ) → (2 * r) * (2 * r) ≡ 4 * (r * r)
+four-squares r = omega (arith, mul-assoc 2 r (2 * r), mul-left-comm r 2 r)
 
--- of j + 1 digits and z leading zeros
-zeros-least : (n j : ℕ) → 2 ^ j ≤ n → n < 2 ^ windowTo → j < windowTo
-zeros-least n j low small = lt-of-not-le (λ h. absurd (omega (arith, pow-mono h)))
+pub half-power : (k : ℕ) → 1 < 2 ^ k → 2 ^ k ≡ 2 * 2 ^ (k - 1)
+half-power zero h = absurd (omega arith)
+half-power (suc k) h =
+    let e : suc k - 1 ≡ k = omega arith in
+    rw (e, pow-suc 2 k) (mul-comm (2 ^ k) 2)
 
-module _ (n : ℕ) (positive : 0 < n) (small : n < 2 ^ windowTo) where
-  pub zeros-left : wordBits - windowTo ≤ leadingZeros wordBits n
-  zeros-left =
-      let t = leading-top wordBits n positive (omega arith) in
-      omega (arith, t .1, zeros-least n (t .0) (t .2) small)
+-- one scaling after another
+pub scaled-add : (n s t : ℕ) → scaled n (s + t) ≡ scaled (scaled n s) t
+scaled-add n s t = rw (pow-add 4 s t) (sym (mul-assoc n (4 ^ s) (4 ^ t)))
 
-  pub zeros-scale : InWindow n ((leadingZeros wordBits n - (wordBits - windowTo)) / 2)
-  zeros-scale =
-      let t = leading-top wordBits n positive (omega arith) in
-      let z = zeros-left in
-      in-window n (t .0) ((leadingZeros wordBits n - (wordBits - windowTo)) / 2) (t .2) (t .3) (omega (arith, t .1, z)) (omega (arith, t .1, z))
+pub scaled-next : (n s : ℕ) → scaled n (s + 1) ≡ 4 * scaled n s
+scaled-next n s = scaled-add n s 1 ∙ mul-comm (scaled n s) 4
 
--- no number needs more
-pub scale-most : (n s : ℕ) → 0 < n → InWindow n s → s < rootDigits
-scale-most n s positive h =
+-- no number stays below the window's end for more scalings
+pub scale-below : (n s : ℕ) → 0 < n → scaled n s < 2 ^ windowTo → s < rootDigits
+scale-below n s positive small =
     lt-of-not-le
-    (λ large. absurd (omega (arith, pow-le-pow-right {n = 4} (omega arith) {i = rootDigits} {j = s} large, mul-le-mul-right {m = 1} {n = n} (4 ^ s) positive, h .most)))
+    (λ large. absurd (omega (arith, pow-le-pow-right {n = 4} (omega arith) {i = rootDigits} {j = s} large, mul-le-mul-right {m = 1} {n = n} (4 ^ s) positive, small)))
 
--- the shift by 2s is the scaling
-pub shifted : (n s : ℕ) → InWindow n s → (n * 2 ^ (2 * s)) % 2 ^ 64 ≡ scaled n s
-shifted n s h =
-    let e : n * 2 ^ (2 * s) ≡ scaled n s = rw (four-power s) in
-    rw e (mod-eq-of-lt (omega (arith, h .most)))
+pub scale-most : (n s : ℕ) → 0 < n → InWindow n s → s < rootDigits
+scale-most n s positive h = scale-below n s positive (h .most)

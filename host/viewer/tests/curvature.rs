@@ -98,6 +98,86 @@ fn one_right_triangle() {
     assert_eq!(bits(&vectors), [0; 9]);
 }
 
+/// The triangle with these corners, whose squared cross product is N.
+fn of_number(corners: [[u32; 3]; 3], n: u64) -> Caller {
+    let side = |to: usize, axis: usize| corners[to][axis] as i64 - corners[0][axis] as i64;
+    let cross = |a: usize, b: usize| side(1, a) * side(2, b) - side(1, b) * side(2, a);
+    let squared = cross(1, 2).pow(2) + cross(2, 0).pow(2) + cross(0, 1).pow(2);
+    assert_eq!(squared as u64, n);
+    Caller {
+        points: corners.concat(),
+        triangles: vec![0, 1, 2],
+        marks: vec![0; 3],
+    }
+}
+
+#[test]
+fn numbers_that_are_squares_and_next_to_them() {
+    for r in [1, 2, 3, 4, 7, 255, 256, 4_095, 8_191, 8_192, 16_128] {
+        let n = u64::from(r).pow(2);
+        same(&of_number([[0, 0, 0], [r, 0, 0], [0, 1, 0]], n));
+        same(&of_number([[0, 0, 0], [1, 0, 0], [0, r, 1]], n + 1));
+        same(&of_number([[0, 0, 0], [r, 0, 0], [0, r, 0]], n * n));
+    }
+    for k in [1, 2, 3, 5, 20, 181, 1_000, 4_097, 8_064] {
+        let n = (2 * u64::from(k).pow(2) + 1).pow(2);
+        same(&of_number([[0, 0, 0], [0, 2 * k, 0], [k, 0, 1]], n - 1));
+    }
+}
+
+/// From 4^k on, up to 4^(k+1), every N is scaled by the same s. From k = 2 on, 4^k - 1 is no sum of three squares, so that no N is between the numbers
+/// tried here and 4^k; and 4^28 is one in one way only, which is too wide for the grid.
+#[test]
+fn the_least_and_the_greatest_number_of_a_scaling() {
+    for k in 0..=26u32 {
+        let (wide, high) = (1 << k.min(13), 1 << k.saturating_sub(13));
+        same(&of_number(
+            [[0, 0, 0], [wide, 0, 0], [0, high, 0]],
+            1 << (2 * k),
+        ));
+    }
+    let least = [
+        (27, 0, [[0, 0, 0], [16_128, 1, 0], [15_616, 8_323, 0]]),
+        (
+            28,
+            1,
+            [[6_211, 0, 14_479], [16_066, 440, 1_183], [0, 9_024, 0]],
+        ),
+    ];
+    for (k, above, corners) in least {
+        same(&of_number(corners, (1 << (2 * k)) + above));
+    }
+    let greatest = [
+        (1, 1, [[2, 1, 1], [3, 0, 1], [0, 4, 0]]),
+        (2, 2, [[2, 1, 1], [3, 0, 0], [0, 2, 5]]),
+        (5, 2, [[1, 4, 5], [2, 3, 0], [0, 0, 16]]),
+        (9, 2, [[1, 2, 41], [0, 15, 52], [2, 0, 0]]),
+        (13, 2, [[79, 17, 5], [82, 0, 44], [0, 213, 0]]),
+        (16, 2, [[278, 170, 60], [365, 0, 221], [0, 545, 0]]),
+        (20, 2, [[251, 38, 1_223], [0, 333, 1_036], [2_511, 0, 0]]),
+        (
+            24,
+            2,
+            [[2_189, 0, 2_909], [1_751, 1_260, 0], [0, 1_945, 9_436]],
+        ),
+        (
+            27,
+            2,
+            [[4_669, 12_881, 5_332], [13_008, 12_659, 0], [0, 0, 12_657]],
+        ),
+        (
+            28,
+            2,
+            [[16_090, 0, 472], [15_187, 13_590, 0], [0, 5_555, 12_163]],
+        ),
+    ];
+    for (k, below, corners) in greatest {
+        same(&of_number(corners, (1 << (2 * k)) - below));
+    }
+    let far = [[0, 0, 0], [16_128, 16_128, 0], [16_128, 0, 16_128]];
+    same(&of_number(far, 3 * 16_128u64.pow(4)));
+}
+
 /// Points whose coordinates are made up by a rule, and triangles between them.
 fn made_up(
     seed: &mut Seed,
