@@ -30,8 +30,8 @@ loop-again : tie.Need-loop-again Inv-loop μ-loop
 loop-again c =
     let found = c .before .before .before .loop .inv in
     ⊎-elim
-    (λ w. rw (w .1, w .2) (found-one found (omega arith) (w .0 .taken)))
-    (λ w. rw (w .1, w .2) (found-none found (omega arith) (w .0 .left)))
+    (λ w. rw (w .1, w .2) (found-one found (omega arith) (omega (arith, w .0 .taken))))
+    (λ w. rw (w .1, w .2) (found-none found (omega arith) (omega (arith, w .0 .left))))
     (c .before .if1 .came)
 
 returns : tie.Need-returns Inv-loop μ-loop
