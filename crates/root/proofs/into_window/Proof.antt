@@ -1,6 +1,6 @@
 -- `root::into_window` meets its contract: each turn takes a step or leaves it. Assumes nothing.
 use mathlib.Core.Logic.{⊎-elim}
-use mathlib.Core.Path.{sym}
+use mathlib.Core.Path.{_≡_, sym}
 use native.Mathlib.Omega.{arith}
 use Rattle.root.proofs.Window.{scale-below}
 use Rattle.root.proofs.Steps.{Reaches, all-steps, moved-up, limit-fits, moved-below, step-taken, step-left, reached}
@@ -61,7 +61,8 @@ loop-again c =
 
 returns : tie.Need-returns Inv-loop μ-loop
 returns c =
-    let h = rw (c .loop-test .left) at (c .before .loop .inv) in
+    let none : c .before .loop .step ≡ 0 = omega (arith, c .loop-test .left) in
+    let h = rw none at (c .before .loop .inv) in
     (reached h, h .is-scaled)
 
 pub into-window-spec : {M : Type 1} → statement M

@@ -1,5 +1,7 @@
 -- `root::whole_root` meets its contract: each turn finds one digit. Assumes nothing.
 use mathlib.Core.Logic.{⊎-elim}
+use mathlib.Core.Path.{_≡_}
+use Prim.Native.Nat.{_+_, _/_}
 use native.Mathlib.Omega.{arith}
 use Rattle.root.proofs.Digit.{Found, none-found, tried-small, found-one, found-none, found-all}
 use Rattle.root.proofs.whole_root.Statement.{statement}
@@ -28,11 +30,17 @@ loop-less c = omega arith
 
 loop-again : tie.Need-loop-again Inv-loop μ-loop
 loop-again c =
-    let found = c .before .before .before .loop .inv in
+    let l = c .before .before .before .loop in
+    let small = tried-small (l .inv) (omega arith) in
+    let next = c .before .if1 in
     ⊎-elim
-    (λ w. rw (w .1, w .2) (found-one found (omega arith) (omega (arith, w .0 .taken))))
-    (λ w. rw (w .1, w .2) (found-none found (omega arith) (omega (arith, w .0 .left))))
-    (c .before .if1 .came)
+    (λ w.
+    let halved : next .doubled / 2 ≡ (l .doubled + l .place + l .place) / 2 = omega (arith, w .2) in
+    rw (w .1, halved) (found-one (l .inv) (omega arith) (omega (arith, w .0 .taken))))
+    (λ w.
+    let halved : next .doubled / 2 ≡ l .doubled / 2 = omega (arith, small, w .2) in
+    rw (w .1, halved) (found-none (l .inv) (omega arith) (omega (arith, w .0 .left))))
+    (next .came)
 
 returns : tie.Need-returns Inv-loop μ-loop
 returns c = found-all (rw (c .loop-test .left) at (c .before .loop .inv))
