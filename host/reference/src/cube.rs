@@ -1,8 +1,10 @@
 //! One cube: corners, cube edges, the face rule, loops and fans, whose start is
 //! the one of request (ii) of document 02.
 //!
-//! Nothing here is a table: the cases are computed from the face rule, and the
+//! No table is written here: the cases are computed from the face rule, and the
 //! faces are computed from the corner coordinates.
+
+use std::sync::LazyLock;
 
 /// The number of corners of a cube.
 pub const CORNERS: u8 = 8;
@@ -269,6 +271,14 @@ pub fn triangles(case: u8) -> Vec<[u8; 3]> {
 pub fn triangles_of_document_01(case: u8) -> Vec<[u8; 3]> {
     loops(case).iter().flat_map(|ring| fan(ring)).collect()
 }
+
+/// The triangles of every case, computed once: those of case c stand at c.
+pub static CASES: LazyLock<Vec<Vec<[u8; 3]>>> =
+    LazyLock::new(|| (0..=u8::MAX).map(triangles).collect());
+
+/// The triangles of every case by document 01 alone, computed once.
+pub static CASES_OF_DOCUMENT_01: LazyLock<Vec<Vec<[u8; 3]>>> =
+    LazyLock::new(|| (0..=u8::MAX).map(triangles_of_document_01).collect());
 
 /// The number of triangles of a case.
 pub fn count(case: u8) -> u8 {

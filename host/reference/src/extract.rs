@@ -1,7 +1,7 @@
 //! The extractor: checks, counts and rooms.
 
 use crate::cube;
-use crate::grid::{Grid, Point};
+use crate::grid::{are_sides, Grid, Point};
 use crate::mesh::{MOST_POINTS, MOST_TRIANGLES};
 
 /// What the extractor returns.
@@ -16,7 +16,7 @@ pub struct Extracted {
 }
 
 /// "A refusal gives the number and zero counts".
-fn refused(number: u32) -> Extracted {
+pub(crate) fn refused(number: u32) -> Extracted {
     Extracted {
         number,
         points: 0,
@@ -27,7 +27,7 @@ fn refused(number: u32) -> Extracted {
 /// Refusals 1, 2 and 3, in this order; 0 if there is none.
 fn check(sides: [u32; 3], samples: usize, work: usize) -> u32 {
     // "a side is below 2 or above 64"
-    if sides.iter().any(|side| !(2..=64).contains(side)) {
+    if !are_sides(sides) {
         return 1;
     }
     // Each side is at most 64 here, so the product is small.
@@ -41,6 +41,33 @@ fn check(sides: [u32; 3], samples: usize, work: usize) -> u32 {
         return 3;
     }
     0
+}
+
+/// "the least of the point, edge and mark rooms"; "a room for points or
+/// triangles counts its whole threes".
+pub(crate) fn point_room(points: &[u32], edges: &[u32], marks: &[u8]) -> usize {
+    (points.len() / 3).min(edges.len()).min(marks.len())
+}
+
+/// "a room for points or triangles counts its whole threes".
+pub(crate) fn triangle_room(triangles: &[u32]) -> usize {
+    triangles.len() / 3
+}
+
+/// Puts points in front of their three rooms; the rest of each room stays.
+pub(crate) fn put_points(list: &[Point], points: &mut [u32], edges: &mut [u32], marks: &mut [u8]) {
+    for (i, point) in list.iter().enumerate() {
+        points[3 * i..3 * i + 3].copy_from_slice(&point.place);
+        edges[i] = point.edge;
+        marks[i] = point.mark;
+    }
+}
+
+/// Puts triangles in front of their room; the rest of it stays.
+pub(crate) fn put_triangles(list: &[[u32; 3]], triangles: &mut [u32]) {
+    for (i, triangle) in list.iter().enumerate() {
+        triangles[3 * i..3 * i + 3].copy_from_slice(triangle);
+    }
 }
 
 /// "The extractor fills points (three u32 each), edge numbers, marks and
@@ -74,28 +101,21 @@ pub fn extract(
         sides,
         grey,
         samples,
+        lowest: 0,
     };
     let point_list = grid.points();
     // "points exceed 250,000 or the least of the point, edge and mark rooms"
-    let point_room = (points.len() / 3).min(edges.len()).min(marks.len());
-    if point_list.len() > MOST_POINTS.min(point_room) {
+    if point_list.len() > MOST_POINTS.min(point_room(points, edges, marks)) {
         return refused(4);
     }
-    let triangle_list = grid.triangles(&point_list, cube::triangles);
+    let triangle_list = grid.triangles(&point_list, &cube::CASES);
     // "triangles exceed 500,000 or their room"
-    let triangle_room = triangles.len() / 3;
-    if triangle_list.len() > MOST_TRIANGLES.min(triangle_room) {
+    if triangle_list.len() > MOST_TRIANGLES.min(triangle_room(triangles)) {
         return refused(5);
     }
 
-    for (i, point) in point_list.iter().enumerate() {
-        points[3 * i..3 * i + 3].copy_from_slice(&point.place);
-        edges[i] = point.edge;
-        marks[i] = point.mark;
-    }
-    for (i, triangle) in triangle_list.iter().enumerate() {
-        triangles[3 * i..3 * i + 3].copy_from_slice(triangle);
-    }
+    put_points(&point_list, points, edges, marks);
+    put_triangles(&triangle_list, triangles);
     Extracted {
         number: 0,
         points: point_list.len() as u32,
@@ -114,8 +134,9 @@ pub fn mesh_of_document_01(
         sides,
         grey,
         samples,
+        lowest: 0,
     };
     let points = grid.points();
-    let triangles = grid.triangles(&points, cube::triangles_of_document_01);
+    let triangles = grid.triangles(&points, &cube::CASES_OF_DOCUMENT_01);
     (points, triangles)
 }

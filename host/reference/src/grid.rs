@@ -2,12 +2,28 @@
 
 use crate::cube;
 
-/// A grid of samples and one grey value. The sides are 2 to 64 and the samples
-/// are as many as the sides say.
+/// "each side nx, ny, nz: 2 to 64": the least side.
+pub const LEAST_SIDE: u32 = 2;
+
+/// "each side nx, ny, nz: 2 to 64": the greatest side.
+pub const MOST_SIDE: u32 = 64;
+
+/// Whether no side "is below 2 or above 64".
+pub(crate) fn are_sides(sides: [u32; 3]) -> bool {
+    sides
+        .iter()
+        .all(|side| (LEAST_SIDE..=MOST_SIDE).contains(side))
+}
+
+/// A grid of samples and one grey value. The sides are 2 to 64.
 pub(crate) struct Grid<'a> {
     pub(crate) sides: [u32; 3],
     pub(crate) grey: u16,
+    /// The samples of whole layers, one layer after the other.
     pub(crate) samples: &'a [u16],
+    /// The z coordinate of the first of these layers. Nobody asks for a sample
+    /// below it or past the last one.
+    pub(crate) lowest: u32,
 }
 
 /// The point of one crossed grid edge.
@@ -38,8 +54,8 @@ impl Grid<'_> {
         x + nx * (y + ny * z)
     }
 
-    fn sample(&self, at: [u32; 3]) -> u16 {
-        self.samples[self.sample_number(at) as usize]
+    fn sample(&self, [x, y, z]: [u32; 3]) -> u16 {
+        self.samples[self.sample_number([x, y, z - self.lowest]) as usize]
     }
 
     /// "A sample is *above* if it is at least the grey value, else *below*."
@@ -83,14 +99,27 @@ impl Grid<'_> {
         })
     }
 
-    /// "One point per crossed grid edge, in rising order of grid edge number,
-    /// numbered from 0."
-    pub(crate) fn points(&self) -> Vec<Point> {
+    /// The points of the crossed edges that leave these samples, in their order.
+    fn points_from(&self, samples: impl Iterator<Item = [u32; 3]>) -> Vec<Point> {
         let mut points = Vec::new();
-        for at in places(self.sides) {
+        for at in samples {
             points.extend((0..3).filter_map(|axis| self.point(at, axis)));
         }
         points
+    }
+
+    /// "One point per crossed grid edge, in rising order of grid edge number,
+    /// numbered from 0."
+    pub(crate) fn points(&self) -> Vec<Point> {
+        self.points_from(places(self.sides))
+    }
+
+    /// The points of the crossed edges that leave the samples of layer `z`.
+    ///
+    /// Only this layer is asked for its samples, and the one above it if it is
+    /// not the last of the grid.
+    pub(crate) fn layer_points(&self, z: u32) -> Vec<Point> {
+        self.points_from(layer_places(self.sides, z))
     }
 
     /// The case number of the cube whose corner 0 is the sample `at`.
@@ -100,42 +129,63 @@ impl Grid<'_> {
             .fold(0, |case, corner| case | 1 << corner)
     }
 
-    /// "Triangles come cube by cube, x fastest, then y, then z, in the case's
-    /// order."
-    ///
-    /// `points` is the list of [`Grid::points`], and `of_case` answers the
-    /// triangles of a case.
-    pub(crate) fn triangles(
+    /// The triangles of these cubes, each in "the case's order", each corner
+    /// named by its grid edge. `cases` are the triangles of every case.
+    fn edge_triangles(
         &self,
-        points: &[Point],
-        of_case: fn(u8) -> Vec<[u8; 3]>,
+        cubes: impl Iterator<Item = [u32; 3]>,
+        cases: &[Vec<[u8; 3]>],
     ) -> Vec<[u32; 3]> {
-        let mut number_of = vec![None; 3 * self.samples.len()];
-        for (number, point) in (0..).zip(points) {
-            number_of[point.edge as usize] = Some(number);
-        }
-        let mut cases: Vec<Option<Vec<[u8; 3]>>> = vec![None; 256];
         let ends: Vec<_> = (0..cube::EDGES).map(cube::edge_ends).collect();
         let mut triangles = Vec::new();
-        for at in places(self.sides.map(|side| side - 1)) {
-            let case = self.case(at);
-            for triangle in cases[usize::from(case)].get_or_insert_with(|| of_case(case)) {
+        for at in cubes {
+            for triangle in &cases[usize::from(self.case(at))] {
                 triangles.push(triangle.map(|cube_edge| {
                     let (axis, low, _) = ends[usize::from(cube_edge)];
-                    let low_end = shifted(at, cube::corner_place(low));
-                    number_of[self.edge_number(low_end, axis) as usize]
-                        .expect("a crossed cube edge is a crossed grid edge")
+                    self.edge_number(shifted(at, cube::corner_place(low)), axis)
                 }));
             }
         }
         triangles
     }
+
+    /// "Triangles come cube by cube, x fastest, then y, then z, in the case's
+    /// order."
+    ///
+    /// `points` is the list of [`Grid::points`], and `cases` are the triangles
+    /// of every case.
+    pub(crate) fn triangles(&self, points: &[Point], cases: &[Vec<[u8; 3]>]) -> Vec<[u32; 3]> {
+        let mut number_of = vec![None; 3 * self.samples.len()];
+        for (number, point) in (0..).zip(points) {
+            number_of[point.edge as usize] = Some(number);
+        }
+        let named = |edge: u32| {
+            number_of[edge as usize].expect("a crossed cube edge is a crossed grid edge")
+        };
+        self.edge_triangles(places(self.sides.map(|side| side - 1)), cases)
+            .into_iter()
+            .map(|triangle| triangle.map(named))
+            .collect()
+    }
+
+    /// The triangles of the cubes between layer `z` and the one above it, "x
+    /// fastest, then y", each corner named by its grid edge.
+    ///
+    /// Only these two layers are asked for their samples.
+    pub(crate) fn layer_triangles(&self, z: u32) -> Vec<[u32; 3]> {
+        let cubes = layer_places(self.sides.map(|side| side - 1), z);
+        self.edge_triangles(cubes, &cube::CASES)
+    }
 }
 
 /// All (x, y, z) below `sides`, "x fastest, then y, then z".
 fn places(sides: [u32; 3]) -> impl Iterator<Item = [u32; 3]> {
-    let [nx, ny, nz] = sides;
-    (0..nz).flat_map(move |z| (0..ny).flat_map(move |y| (0..nx).map(move |x| [x, y, z])))
+    (0..sides[2]).flat_map(move |z| layer_places(sides, z))
+}
+
+/// Those of them in layer `z`, "x fastest, then y".
+fn layer_places([nx, ny, _]: [u32; 3], z: u32) -> impl Iterator<Item = [u32; 3]> {
+    (0..ny).flat_map(move |y| (0..nx).map(move |x| [x, y, z]))
 }
 
 fn shifted(at: [u32; 3], by: [u8; 3]) -> [u32; 3] {

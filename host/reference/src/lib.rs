@@ -1,6 +1,7 @@
 //! A plain reading of document 01 ("Requirements of the build and its rules")
-//! and of requests (i) to (iii) of document 02 ("Hear the box of a void", "Flat
-//! triangles in a cube face", "Reading a mesh back").
+//! and of requests (i) to (iii) and (v) of document 02 ("Hear the box of a
+//! void", "Flat triangles in a cube face", "Reading a mesh back", "Layers as
+//! they come off the scanner").
 //!
 //! The crate was written from these documents alone. It is a second program to
 //! compare a proved library with, bit for bit: same answers, same content of
@@ -19,6 +20,7 @@ pub mod cube;
 pub mod curvature;
 pub mod extract;
 pub mod grid;
+pub mod layers;
 mod lines;
 pub mod mesh;
 pub mod read;

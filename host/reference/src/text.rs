@@ -27,6 +27,7 @@
 use std::fmt::Write;
 
 use crate::extract::extract;
+use crate::grid::are_sides;
 use crate::lines::{fields, fields_after, number, numbers, Lines};
 use crate::mesh::threes;
 use crate::shells::{records_of, Shell};
@@ -78,7 +79,7 @@ fn read(input: &[u8]) -> Result<Task, Refusal> {
     let mut lines = Lines::of(input);
     let [nx, ny, nz, grey, rounds, weight] = lines.next(first_line).map_err(Refusal::malformed)?;
     let sides = [nx, ny, nz].map(u32::from);
-    if sides.iter().any(|side| !(2..=64).contains(side)) {
+    if !are_sides(sides) {
         return Err(Refusal::plain(1));
     }
     if sides.iter().product::<u32>() > 512 {

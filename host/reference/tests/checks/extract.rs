@@ -1,7 +1,9 @@
 //! The extractor: figures, limits, refusals, rooms, and a second way to the
 //! same mesh.
 
-use crate::tools::{extracted, random_grid, Grid, Mesh, Random};
+use crate::tools::{
+    exactly_250_000_points, extracted, one_point_more, random_grid, Grid, Mesh, Random,
+};
 use reference::cube;
 use reference::extract::{extract, Extracted};
 use reference::grid::offset;
@@ -238,30 +240,9 @@ fn all_below_gives_an_empty_mesh() {
     assert_eq!(mesh.triangles.len(), 0);
 }
 
-/// Isolated above samples: 6 points each inside, 5 on an outer face, 4 on an
-/// outer edge of the grid.
 #[test]
 fn exactly_250_000_points_are_taken() {
-    let mut grid = Grid::filled([64, 64, 64], 1, 0);
-    let mut inside = 0;
-    'all: for z in 1..62 {
-        for y in 1..63 {
-            for x in 1..63 {
-                if (x + y + z) % 2 == 0 {
-                    grid.set([x, y, z], 1);
-                    inside += 1;
-                    if inside == 41_666 {
-                        break 'all;
-                    }
-                }
-            }
-        }
-    }
-    let mut exact = grid.clone();
-    exact.set([0, 31, 63], 1);
-    let mut over = grid.clone();
-    over.set([31, 31, 63], 1);
-
+    let (exact, over) = (exactly_250_000_points(), one_point_more());
     let rooms = Rooms::guarded(750_003, 250_001, 250_001, 1_500_003, 786_432);
     let mut after = rooms.clone();
     let answer = after.extract(&exact);
@@ -297,13 +278,8 @@ fn exactly_500_000_triangles_are_taken() {
 /// A full checkerboard crosses all 774,144 grid edges.
 #[test]
 fn a_checkerboard_of_side_64_has_too_many_points() {
-    let mut grid = Grid::filled([64, 64, 64], 1, 0);
-    for (s, sample) in grid.samples.iter_mut().enumerate() {
-        let (x, y, z) = (s % 64, s / 64 % 64, s / 4096);
-        *sample = ((x + y + z) % 2) as u16;
-    }
     let rooms = Rooms::guarded(3 * 774_144, 774_144, 774_144, 15 * 262_144, 786_432);
-    assert_refused(&grid, &rooms, 4);
+    assert_refused(&Grid::checkerboard(), &rooms, 4);
 }
 
 /// A second way to the mesh of a grid: edge by edge through the numbers, the

@@ -4,6 +4,7 @@
 mod cube;
 mod curvature;
 mod extract;
+mod layers;
 mod mesh;
 mod read;
 mod shells;

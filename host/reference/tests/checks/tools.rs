@@ -117,11 +117,62 @@ impl Grid {
         grid.set([1, 1, 1], 100);
         grid
     }
+
+    /// Side 64, every other sample above.
+    pub fn checkerboard() -> Grid {
+        let mut grid = Grid::filled([64, 64, 64], 1, 0);
+        for (s, sample) in grid.samples.iter_mut().enumerate() {
+            let (x, y, z) = (s % 64, s / 64 % 64, s / 4096);
+            *sample = ((x + y + z) % 2) as u16;
+        }
+        grid
+    }
+}
+
+/// Isolated above samples off the outer faces, none near the last layer: 6 points
+/// each, 249,996 in all.
+fn nearly_250_000_points() -> Grid {
+    let mut grid = Grid::filled([64, 64, 64], 1, 0);
+    let mut inside = 0;
+    'all: for z in 1..62 {
+        for y in 1..63 {
+            for x in 1..63 {
+                if (x + y + z) % 2 == 0 {
+                    grid.set([x, y, z], 1);
+                    inside += 1;
+                    if inside == 41_666 {
+                        break 'all;
+                    }
+                }
+            }
+        }
+    }
+    grid
+}
+
+/// A grid of 250,000 points: an isolated sample on an outer edge of the grid
+/// adds 4.
+pub fn exactly_250_000_points() -> Grid {
+    let mut grid = nearly_250_000_points();
+    grid.set([0, 31, 63], 1);
+    grid
+}
+
+/// A grid of 250,001 points: an isolated sample on an outer face adds 5.
+pub fn one_point_more() -> Grid {
+    let mut grid = nearly_250_000_points();
+    grid.set([31, 31, 63], 1);
+    grid
 }
 
 /// A grid with random sides below 8, and samples of several kinds.
 pub fn random_grid(random: &mut Random) -> Grid {
     let sides = [0; 3].map(|_| 2 + random.below(6));
+    random_grid_of(random, sides)
+}
+
+/// A grid with these sides, and samples of several kinds.
+pub fn random_grid_of(random: &mut Random, sides: [u32; 3]) -> Grid {
     let (bound, grey) = match random.below(4) {
         0 => (2, 1),
         1 => (6, 3),
