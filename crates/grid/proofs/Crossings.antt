@@ -81,20 +81,21 @@ module _ (n : Size) (above : ℕ → Bool) where
     pub crossed-z : crossed axes n above (3 * s + 2) ≡ (ltb (z + 1) (n .nz) && xor (above s) (above (s + n .nx * n .ny)))
     crossed-z = crossed-at axes n s 2 (omega arith) above ∙ tested 4 ∙ rw (stays x (n .nx) hx, stays y (n .ny) hy, step-z n)
 
+-- where a sample is there at an edge's other end, it is one of the grid's
+pub there-small : (n : Size) (s d : ℕ) → isThere n s d ≡ true → otherEnd n s d < sampleCount n
+unfolding isThere fitsAlong otherEnd side
+there-small n s d t =
+    let p = both (ltb (coordinate n 0 s + along d 0) (n .nx)) _ t in
+    let q = both (ltb (coordinate n 1 s + along d 1) (n .ny)) _ (p .1) in
+    let r =
+    site-small n (coordinate n 0 s + along d 0) (coordinate n 1 s + along d 1) (coordinate n 2 s + along d 2) (ltb-true _ _ (p .0))
+    (ltb-true _ _ (q .0))
+    (ltb-true _ _ (q .1)) in
+    rw (site-add n (coordinate n 0 s) (coordinate n 1 s) (coordinate n 2 s) (along d 0) (along d 1) (along d 2), site-of n s) at r
+
 -- which edges are crossed depends on the samples of the grid alone
 module _ (k : Kind) (n : Size) (px : 0 < n .nx) (py : 0 < n .ny) (above other : ℕ → Bool)
     (same : (s : ℕ) → s < sampleCount n → above s ≡ other s) where
-  there-small : (s d : ℕ) → s < sampleCount n → isThere n s d ≡ true → otherEnd n s d < sampleCount n
-  unfolding isThere fitsAlong otherEnd side
-  there-small s d h t =
-      let p = both (ltb (coordinate n 0 s + along d 0) (n .nx)) _ t in
-      let q = both (ltb (coordinate n 1 s + along d 1) (n .ny)) _ (p .1) in
-      let r =
-      site-small n (coordinate n 0 s + along d 0) (coordinate n 1 s + along d 1) (coordinate n 2 s + along d 2) (ltb-true _ _ (p .0))
-      (ltb-true _ _ (q .0))
-      (ltb-true _ _ (q .1)) in
-      rw (site-add n (coordinate n 0 s) (coordinate n 1 s) (coordinate n 2 s) (along d 0) (along d 1) (along d 2), site-of n s) at r
-
   -- no edge leaves a sample beyond the grid
   beyond : (s d : ℕ) → sampleCount n ≤ s → isThere n s d ≡ false
   unfolding isThere fitsAlong coordinate side
@@ -109,7 +110,7 @@ module _ (k : Kind) (n : Size) (px : 0 < n .nx) (py : 0 < n .ny) (above other : 
     where
       go : (b : Bool) → isThere n s d ≡ b → Dec (s < sampleCount n)
           → (b && xor (above s) (above (otherEnd n s d))) ≡ (b && xor (other s) (other (otherEnd n s d)))
-      go true t (yes h) = ap₂ xor (same s h) (same (otherEnd n s d) (there-small s d h t))
+      go true t (yes h) = ap₂ xor (same s h) (same (otherEnd n s d) (there-small n s d t))
       go true t (no h) = absurd (false≢true (sym (beyond s d (omega arith)) ∙ t))
       go false t d = refl
 

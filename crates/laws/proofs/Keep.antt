@@ -10,7 +10,9 @@ use native.Mathlib.Omega.{arith}
 use lib.ListN.{length, getD, length-append, List·getD-append}
 use lib.Seq.{getD-at}
 use Rattle.laws.specs.Range.{sumTo, joinTo, countTo, keepTo, keepFrom, one-if}
-use Rattle.laws.proofs.Ranges.{join-cong, join-split, join-quiet, join-one}
+use Rattle.laws.specs.Sum.{All}
+use Rattle.laws.proofs.Sums.{all-append}
+use Rattle.laws.proofs.Ranges.{join-cong, join-split, join-quiet, join-one, of-join, length-join, sum-cong, count-le}
 
 length-if : (b : Bool) (n : ℕ) → length (cond b (n ∷ []) []) ≡ one-if b
 length-if true n = refl
@@ -107,3 +109,36 @@ keep-on a b c p h k =
     rw all
     (join-split (b - a) (c - b) (λ i. f (a + i))
     ∙ ap (λ xs. joinTo (b - a) (λ i. f (a + i)) ++ xs) (join-cong (c - b) (λ i. f (a + (b - a + i))) (λ i. f (b + i)) (λ i l. ap f (omega arith))))
+
+-- of a test that says the same of each number, all that are kept, and how many they are at most
+module _ (a b : ℕ) (p : ℕ → Bool) where
+  pub keep-cong-from : (q : ℕ → Bool) → ((e : ℕ) → a ≤ e → e < b → p e ≡ q e) → keepFrom a b p ≡ keepFrom a b q
+  unfolding keepFrom
+  keep-cong-from q h = join-cong (b - a) _ _ (λ i l. ap (λ t. cond t ((a + i) ∷ []) []) (h (a + i) (omega arith) (omega arith)))
+
+  pub keep-passes : All (λ e. (a ≤ e) × (e < b) × (p e ≡ true)) (keepFrom a b p)
+  unfolding keepFrom
+  keep-passes = of-join (All (λ e. (a ≤ e) × (e < b) × (p e ≡ true))) tt (all-append (λ e. (a ≤ e) × (e < b) × (p e ≡ true))) (b - a) _ (λ i l. go i l (p (a + i)) refl)
+    where
+      go : (i : ℕ) → i < b - a → (t : Bool) → p (a + i) ≡ t → All (λ e. (a ≤ e) × (e < b) × (p e ≡ true)) (cond t ((a + i) ∷ []) [])
+      go i l true is = ((omega arith, omega arith, is), tt)
+      go i l false is = tt
+
+  pub length-from : length (keepFrom a b p) ≡ countTo (b - a) (λ i. p (a + i))
+  unfolding keepFrom countTo
+  length-from =
+      length-join (b - a) (λ i. cond (p (a + i)) ((a + i) ∷ []) []) ∙ sum-cong (b - a) _ (λ i. one-if (p (a + i))) (λ i l. length-if (p (a + i)) (a + i))
+
+  pub keep-most : length (keepFrom a b p) ≤ b - a
+  keep-most = rw length-from (count-le (b - a) (λ i. p (a + i)))
+
+-- range after range
+pub keep-ranges : (k : ℕ) (f : ℕ → ℕ) (p : ℕ → Bool) → ((i : ℕ) → i < k → f i ≤ f (i + 1)) → (f 0 ≤ f k) × (joinTo k (λ i. keepFrom (f i) (f (i + 1)) p) ≡ keepFrom (f 0) (f k) p)
+unfolding joinTo
+keep-ranges zero f p rises = (omega arith, sym (keep-no (f 0) (f 0) p (λ i l. absurd (omega arith))))
+keep-ranges (suc k) f p rises =
+    let so = keep-ranges k f p (λ i l. rises i (omega arith)) in
+    let next : f k ≤ f (suc k) = rw add-one at (rises k (omega arith)) in (
+      omega (arith, so .0, next),
+      rw (so .1, add-one) (sym (keep-on (f 0) (f k) (f (suc k)) p (so .0) next)),
+    )

@@ -14,6 +14,7 @@ pub mod Single
 pub mod Binary
 pub mod Halves
 pub mod Words
+pub mod Ones
 pub mod Scan
 pub mod Digits
 pub mod Nearest

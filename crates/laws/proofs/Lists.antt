@@ -1,6 +1,6 @@
 -- Lists element by element: what holds of each, and what each becomes.
 use mathlib.Core.Path.{_≡_, refl, ap₂}
-use mathlib.Core.List.{List, [], _∷_, map, flatMap}
+use mathlib.Core.List.{List, [], _∷_, _++_, map, flatMap}
 use Prim.Native.Nat.{ℕ, zero, suc, _<_}
 use native.Mathlib.Omega.{arith}
 use lib.ListN.{length, getD}
@@ -37,3 +37,9 @@ pub flat-map : {A B C : Type 0} (g : B → List C) (f : A → B) (h : A → List
 unfolding flatMap
 flat-map g f h same [] = refl
 flat-map g f h same (x ∷ xs) = rw (same x, flat-map g f h same xs)
+
+-- with another function in place of one that gives the same for each element
+pub flat-cong : {A B : Type 0} (P : A → Type 0) (f g : A → List B) → ((a : A) → P a → f a ≡ g a) → (xs : List A) → All P xs → flatMap f xs ≡ flatMap g xs
+unfolding flatMap
+flat-cong P f g h [] a = refl
+flat-cong P f g h (x ∷ xs) a = ap₂ _++_ (h x (a .0)) (flat-cong P f g h xs (a .1))

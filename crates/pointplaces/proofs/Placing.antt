@@ -157,34 +157,31 @@ module _ (sides : Sides) (grey : ℕ) (samples masks : List ℕ) where
   unfolding place
   length-places es = length-flat 3 (place axes (sizeOf sides) grey (gridSamples sides samples)) (λ e. refl) es
 
-  abbrev all : List ℕ
-  all = pointEdges axes (sizeOf sides) (wordsAbove sides masks)
-
   -- the crossed edges from the first on and up to the last are all
-  pub all-crossings : (first past : ℕ) → first ≡ 0 → past ≡ edgeCount axes (sizeOf sides) → crossings sides masks first past ≡ all
+  pub all-crossings : (first past : ℕ) → first ≡ 0 → past ≡ edgeCount axes (sizeOf sides) → crossings sides masks first past ≡ pointEdges axes (sizeOf sides) (wordsAbove sides masks)
   unfolding pointEdges
   all-crossings first past none last = rw (none, last) (keep-all (edgeCount axes (sizeOf sides)) (cut sides masks))
 
-  -- past the last edge the points are laid in the rooms
-  module _ (first past next : ℕ) (none : first ≡ 0) (last : past ≡ edgeCount axes (sizeOf sides)) (origin r : PointRooms)
-      (so : Placed sides grey samples masks first past 0 next origin r) where
-    held : r ≡ placedFrom origin 0 (map point all)
-    held = so .placed ∙ ap (λ es. placedFrom origin 0 (map point es)) (all-crossings first past none last)
+  -- where the first point is point 0, the points are laid in the rooms
+  module _ (first past next : ℕ) (origin r : PointRooms) (so : Placed sides grey samples masks first past 0 next origin r) (found : List ℕ)
+      (are : crossings sides masks first past ≡ found) where
+    held : r ≡ placedFrom origin 0 (map point found)
+    held = so .placed ∙ ap (λ es. placedFrom origin 0 (map point es)) are
 
-    pub places-laid : 3 * length all ≤ length (origin .points) → r .points ≡ laid (flatMap (place axes (sizeOf sides) grey (gridSamples sides samples)) all) (origin .points)
+    pub places-laid : 3 * length found ≤ length (origin .points) → r .points ≡ laid (flatMap (place axes (sizeOf sides) grey (gridSamples sides samples)) found) (origin .points)
     unfolding placedFrom
     places-laid fits =
         ap (λ r. r .points) held
-        ∙ ap (sets (origin .points) 0) (places-of all)
-        ∙ sets-front (origin .points) (flatMap (place axes (sizeOf sides) grey (gridSamples sides samples)) all) (omega (arith, length-places all))
+        ∙ ap (sets (origin .points) 0) (places-of found)
+        ∙ sets-front (origin .points) (flatMap (place axes (sizeOf sides) grey (gridSamples sides samples)) found) (omega (arith, length-places found))
 
-    pub edges-laid : length all ≤ length (origin .edges) → r .edges ≡ laid all (origin .edges)
+    pub edges-laid : length found ≤ length (origin .edges) → r .edges ≡ laid found (origin .edges)
     unfolding placedFrom
-    edges-laid fits = ap (λ r. r .edges) held ∙ ap (sets (origin .edges) 0) (edges-of all) ∙ sets-front (origin .edges) all fits
+    edges-laid fits = ap (λ r. r .edges) held ∙ ap (sets (origin .edges) 0) (edges-of found) ∙ sets-front (origin .edges) found fits
 
-    pub marks-laid : length all ≤ length (origin .marks) → r .marks ≡ laid (map (mark axes (sizeOf sides)) all) (origin .marks)
+    pub marks-laid : length found ≤ length (origin .marks) → r .marks ≡ laid (map (mark axes (sizeOf sides)) found) (origin .marks)
     unfolding placedFrom
     marks-laid fits =
         ap (λ r. r .marks) held
-        ∙ ap (sets (origin .marks) 0) (marks-of all)
-        ∙ sets-front (origin .marks) (map (mark axes (sizeOf sides)) all) (omega (arith, length-map all (mark axes (sizeOf sides))))
+        ∙ ap (sets (origin .marks) 0) (marks-of found)
+        ∙ sets-front (origin .marks) (map (mark axes (sizeOf sides)) found) (omega (arith, length-map found (mark axes (sizeOf sides))))

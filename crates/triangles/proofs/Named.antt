@@ -54,7 +54,7 @@ module _ (sides : Sides) (masks names offsets : List ℕ) (right : offsets ≡ m
         listed = λ some. omega (arith, given some);
       })
 
-  cube-named : (x y z : ℕ) → gridNames offsets names sides masks z x y ≡ map (nameOf names) (flat (cubeTriangles cubes n above x y z))
+  pub cube-named : (x y z : ℕ) → gridNames offsets names sides masks z x y ≡ map (nameOf names) (flat (cubeTriangles cubes n above x y z))
   unfolding cubeNames cubeTriangles
   cube-named x y z =
       let k = caseAt n above x y z in

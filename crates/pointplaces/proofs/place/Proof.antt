@@ -144,11 +144,12 @@ returns c =
     let end : l .loop .z ≡ s .nz = omega (arith, l .loop .inv .0) in
     let none : 3 * layerFirst s 0 ≡ 0 = ap (λ n. 3 * n) (layer-first s) in
     let last = ap (λ z. 3 * layerFirst s z) end in
+    let all = all-crossings s (a .grey) samples masks _ _ none last in
     let so = l .loop .inv .2 in (
-      places-laid s (a .grey) samples masks _ _ (l .loop .n) none last (first-rooms f) after so (pre .0),
+      places-laid s (a .grey) samples masks _ _ (l .loop .n) (first-rooms f) after so _ all (pre .0),
       (
-        edges-laid s (a .grey) samples masks _ _ (l .loop .n) none last (first-rooms f) after so (pre .1 .0),
-        marks-laid s (a .grey) samples masks _ _ (l .loop .n) none last (first-rooms f) after so (pre .1 .1),
+        edges-laid s (a .grey) samples masks _ _ (l .loop .n) (first-rooms f) after so _ all (pre .1 .0),
+        marks-laid s (a .grey) samples masks _ _ (l .loop .n) (first-rooms f) after so _ all (pre .1 .1),
       ),
     )
 

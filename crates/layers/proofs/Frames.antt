@@ -1,0 +1,86 @@
+-- The lent layers in the grid of a state: what the walks are given, and what is then handed out.
+use mathlib.Core.Path.{_≡_, ap, ap₂, sym, subst, _∙_}
+use mathlib.Core.List.{List, _++_}
+use Prim.Native.Nat.{ℕ, suc, _+_, _*_, _-_, _≤_, _<_}
+use native.Mathlib.Nat.{mul-le-mul}
+use native.Mathlib.Omega.{arith}
+use lib.ListN.{length}
+use Rattle.grid.specs.Limits.{mostSide}
+use Rattle.grid.specs.Grid.{isAboveGrey}
+use Rattle.grid.specs.Work.{size, SidesFit}
+use Rattle.masks.specs.Masks.{rowWords, Masked}
+use Rattle.masks.proofs.Above.{told-agrees}
+use Rattle.rows.specs.declared.Sides.{Sides}
+use Rattle.rows.specs.Rows.{sizeOf, zerosBelow, gridSamples}
+use Rattle.pointplaces.specs.Places.{Given}
+use Rattle.layerstate.specs.declared.Head.{Head}
+use Rattle.layerstate.specs.State.{keptIn, stateIn}
+use Rattle.layerstate.specs.Heads.{headIn}
+use Rattle.layerparts.specs.Layer.{layerThrough, lastLayer}
+use Rattle.layerparts.specs.Parts.{Framed}
+use Rattle.layers.specs.Outcome.{layerHands, closingHands}
+
+module _ (head : Head) (first : ℕ) (sides : Sides) (framed : Framed head first sides) where
+  pub sides-fit : SidesFit (head .nx) (head .ny) (head .nz) → SidesFit (sides .nx) (sides .ny) (sides .nz)
+  sides-fit fit = rw (framed .nx, framed .ny, framed .nz) fit
+
+  -- a row of the longest side is one word, so that the words of two layers have room
+  pub words-fit : SidesFit (head .nx) (head .ny) (head .nz) → (layers : ℕ) → layers ≤ 2 → rowWords (sides .nx) * (sides .ny * layers) ≤ 2 * mostSide
+  words-fit fit layers few =
+      let most = sides-fit fit in
+      omega (
+        arith,
+        mul-le-mul {n₁ = rowWords (sides .nx)} {m₁ = sides .ny * layers} {n₂ = 1} {m₂ = mostSide * 2} (omega (arith, most .most-x))
+            (mul-le-mul {n₁ = sides .ny} {m₁ = layers} {n₂ = mostSide} {m₂ = 2} (most .most-y) few),
+      )
+
+  pub given-of : SidesFit (head .nx) (head .ny) (head .nz) → (grey : ℕ) (samples masks : List ℕ) (layers rows : ℕ) → layers ≤ 2 → 1 ≤ layers → (first + 1 < head .nz → layers ≡ 2)
+      → rows ≡ sides .ny * layers → length samples ≡ sides .nx * rows → length masks ≡ 2 * mostSide → Masked (sides .nx) rows grey samples masks → Given sides (sides .below) grey samples masks
+  given-of fit grey samples masks layers rows few some over are long words masked =
+      let fits = sides-fit fit in
+      let told = subst (λ rows. Masked (sides .nx) rows grey samples masks) are masked in
+      record {
+        ready =
+            record {
+              fit = fits;
+              words = framed .words;
+              last = framed .last;
+              layers = layers;
+              from = omega arith;
+              here = omega arith;
+              over = λ l. omega (arith, over (omega (arith, framed .below, framed .nz)));
+              rows = omega (arith, words, words-fit fit layers few);
+              agree = told-agrees (sides .nx) (sides .ny * layers) (isAboveGrey grey samples) masks (fits .least-x) told;
+            };
+        held = omega (arith, long, ap (λ rows. sides .nx * rows) are);
+        masked = told;
+      }
+
+  module _ (room : List ℕ) (is : head ≡ headIn room) (samples : List ℕ) where
+    is-x : sides .nx ≡ headIn room .nx
+    is-x = framed .nx ∙ ap (λ h. h .nx) is
+
+    is-y : sides .ny ≡ headIn room .ny
+    is-y = framed .ny ∙ ap (λ h. h .ny) is
+
+    is-z : sides .nz ≡ headIn room .nz
+    is-z = framed .nz ∙ ap (λ h. h .nz) is
+
+    is-grey : head .grey ≡ headIn room .grey
+    is-grey = ap (λ h. h .grey) is
+
+    pub layer-handed : (layer : List ℕ) → head .taken ≡ suc first → samples ≡ keptIn (sides .nx * sides .ny) room ++ layer
+        → layerThrough (sizeOf sides) (head .grey) (gridSamples sides samples) (sides .below) ≡ layerHands (stateIn room) (head .taken) layer
+    unfolding layerHands stateIn
+    layer-handed layer taken held =
+        let pair : samples ≡ keptIn (headIn room .nx * headIn room .ny) room ++ layer = held ∙ ap₂ (λ x y. keptIn (x * y) room ++ layer) is-x is-y in
+        (λ i. layerThrough (size (is-x i) (is-y i) (is-z i)) (is-grey i) (zerosBelow (is-x i * is-y i) (framed .below i) (pair i)) (framed .below i))
+        ∙ ap (λ t. layerHands (stateIn room) t layer) (sym taken)
+
+    pub last-handed : first ≡ headIn room .nz - 1 → samples ≡ keptIn (sides .nx * sides .ny) room
+        → lastLayer (sizeOf sides) (head .grey) (gridSamples sides samples) (sides .below) ≡ closingHands (stateIn room)
+    unfolding closingHands stateIn
+    last-handed last held =
+        let kept : samples ≡ keptIn (headIn room .nx * headIn room .ny) room = held ∙ ap₂ (λ x y. keptIn (x * y) room) is-x is-y in
+        let at : sides .below ≡ headIn room .nz - 1 = framed .below ∙ last in
+        λ i. lastLayer (size (is-x i) (is-y i) (is-z i)) (is-grey i) (zerosBelow (is-x i * is-y i) (at i) (kept i)) (at i)

@@ -1,0 +1,3 @@
+-- The ways out of the three calls; the lent layers in the grid of a state.
+pub mod Ways
+pub mod Frames

@@ -1,0 +1,2 @@
+-- The kept layer, sample by sample.
+pub mod Kept
