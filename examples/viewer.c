@@ -1,5 +1,5 @@
 /* From a volume to a spoken list: a block of metal with two voids, 12 samples a side, said in plain sentences. Then the mesh is written as a text, as
- * it is sent to somebody, and read back. */
+ * it is sent to somebody, and read back. The mesh is made layer by layer too, as a scanner delivers them. */
 #include <inttypes.h>
 #include <stdio.h>
 #include <stdlib.h>
@@ -81,6 +81,39 @@ static mesh extracted(void) {
   return m;
 }
 
+/* The place of an edge in a list that rises. */
+static uint32_t rank(const uint32_t *edges, uint32_t count, uint32_t edge) {
+  uint32_t low = 0;
+  while (count > 1) {
+    uint32_t half = count / 2;
+    if (edges[low + half] <= edge)
+      low += half;
+    count -= half;
+  }
+  return low;
+}
+
+/* The same mesh from one layer after the other. Each call is lent room for what it can hand out, behind what is there. */
+static mesh layered(void) {
+  size_t more_points = tholbrina_layer_points(side, side), more_triangles = tholbrina_layer_triangles(side, side);
+  uint16_t *volume = room(samples, sizeof *volume);
+  uint32_t *state = room(tholbrina_layers_state, sizeof *state), v = 0, t = 0;
+  mesh m = rooms(tholbrina_grid_points(side, side, side) + more_points, tholbrina_grid_triangles(side, side, side) + more_triangles, 0);
+  cast(volume);
+  granted("Opening", tholbrina_layers_open(side, side, side, 550, state, tholbrina_layers_state));
+  for (size_t z = 0; z < side; z++, m.v += v, m.t += t)
+    granted("A layer", tholbrina_layers_next(volume + z * side * side, side * side, state, tholbrina_layers_state, m.points + 3 * (size_t)m.v,
+                                             3 * more_points, m.edges + m.v, more_points, m.marks + m.v, more_points,
+                                             m.triangles + 3 * (size_t)m.t, 3 * more_triangles, &v, &t));
+  granted("Closing", tholbrina_layers_close(state, tholbrina_layers_state, m.points + 3 * (size_t)m.v, 3 * more_points, m.edges + m.v,
+                                            more_points, m.marks + m.v, more_points, &v));
+  m.v += v;
+  for (size_t corner = 0; corner < 3 * (size_t)m.t; corner++)
+    m.triangles[corner] = rank(m.edges, m.v, m.triangles[corner]);
+  free(state), free(volume);
+  return m;
+}
+
 static void smooth(mesh *m) {
   size_t v = m->v, t = m->t, work_len = tholbrina_smooth_work(v, t);
   uint32_t *smoothed = room(3 * v + 1, sizeof *smoothed), *work = room(work_len, sizeof *work);
@@ -134,7 +167,9 @@ static int same(const mesh *a, const mesh *b) {
 }
 
 int main(void) {
-  mesh m = extracted();
+  mesh m = extracted(), by_layers = layered();
+  int is_same_by_layers = same(&m, &by_layers);
+  leave(by_layers);
   smooth(&m);
   list(&m);
   printf("%" PRIu32 " shells.\n", m.count);
@@ -146,6 +181,7 @@ int main(void) {
   mesh again = read_back(text, length);
   int is_same = same(&m, &again);
   printf("The mesh has %zu bytes as a text, and is %s when it is read back.\n", length, is_same ? "the same" : "another");
+  printf("Layer by layer the raw mesh is %s.\n", is_same_by_layers ? "the same" : "another");
   leave(again), free(text), leave(m);
-  return !is_same;
+  return !is_same || !is_same_by_layers;
 }

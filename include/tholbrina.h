@@ -17,7 +17,7 @@
 #define THOLBRINA_H
 
 /* The version of the library, the header and the programs. A change of a call, a record or a text raises the second number. */
-#define THOLBRINA_VERSION "0.4.0"
+#define THOLBRINA_VERSION "0.5.0"
 
 #include <stddef.h>
 #include <stdint.h>
@@ -90,6 +90,72 @@ uint32_t tholbrina_extract(uint32_t nx, uint32_t ny, uint32_t nz, uint16_t grey,
                            uint32_t *triangles, size_t triangles_len,
                            uint32_t *work, size_t work_len,
                            uint32_t *point_count, uint32_t *triangle_count);
+
+/* A volume layer by layer, as a scanner delivers it. A run is an opening, nz layers in their order, and a closing. It holds two layers and no more: the
+ * one that is handed in, and the one before it, which the state keeps.
+ *
+ * A layer has nx * ny samples; sample (x, y) of it is layer[x + nx * y]. A granted layer hands out what it finishes: the points of the layer below, on
+ * the grid edges that leave a sample of that layer, those along z up to the new layer too, and the triangles of the cubes between the two. The first
+ * layer hands out nothing. The closing hands out the points of the last layer.
+ *
+ * Points are named by their grid edges, in triangles too. A corner of a triangle may lie in the new layer: its point is handed out by the next call.
+ * The edges that a run hands out rise, in a call and from call to call. So a point's number is the rank of its edge, and all that a run hands out, put
+ * together in order, with point numbers for the edges in the triangles, is the mesh of tholbrina_extract.
+ *
+ * A refused call leaves the state as it was, and the run can go on from there: with larger rooms after 4 or 5, for instance. */
+
+/* The length of the room for a run's state. What stands in it is the library's own: a call is lent the state that the last granted call left. With any
+ * other numbers in it no call goes wrong; each is granted or refused by what it finds there. */
+enum { tholbrina_layers_state = 4104 };
+
+/* At least as many points and triangles as one call of a run with these sides can hand out. With room for so many, refusals 4 and 5 come only where the
+ * run's totals exceed a bound. */
+static inline size_t tholbrina_layer_points(size_t nx, size_t ny) {
+  return tholbrina_grid_points(nx, ny, 1);
+}
+static inline size_t tholbrina_layer_triangles(size_t nx, size_t ny) {
+  return tholbrina_grid_triangles(nx, ny, 1);
+}
+
+/* Opens a run of nz layers of nx * ny samples at one grey value, and writes the whole room of its state. There is no work room.
+ *
+ * Refusals, in this order:
+ *   1  a side is below 2 or above 64
+ *   3  state_len is not 4,104 */
+uint32_t tholbrina_layers_open(uint32_t nx, uint32_t ny, uint32_t nz, uint16_t grey,
+                               uint32_t *state, size_t state_len);
+
+/* Takes the next layer. Fills from the front, and leaves the rest of each room as it was: points, edges and marks as tholbrina_extract does, and
+ * triangles with three grid edges a triangle, cube by cube, x fastest, then y. A room for points or triangles counts its whole threes. *point_count and
+ * *triangle_count say how many of each this call hands out. There is no work room.
+ *
+ * Refusals, in this order:
+ *   3   state_len is not 4,104
+ *   1   the state, which no call left, has a side below 2 or above 64 or a grey value above 65,535
+ *   17  layer_len is not nx * ny, or the layer is one too many: nz layers or more were taken, or the run is closed
+ *   4   the run's points with this call's are more than 250,000, or this call's are more than the least of the point, edge and mark rooms holds
+ *   5   the run's triangles with this call's are more than 500,000, or this call's are more than their room holds */
+uint32_t tholbrina_layers_next(const uint16_t *layer, size_t layer_len,
+                               uint32_t *state, size_t state_len,
+                               uint32_t *points, size_t points_len,
+                               uint32_t *edges, size_t edges_len,
+                               uint8_t *marks, size_t marks_len,
+                               uint32_t *triangles, size_t triangles_len,
+                               uint32_t *point_count, uint32_t *triangle_count);
+
+/* Closes a run whose layers were all taken, and hands out the points of the last one: into points, edges and marks from the front, as
+ * tholbrina_layers_next does. *point_count says how many they are. There is no work room.
+ *
+ * Refusals, in this order:
+ *   3   state_len is not 4,104
+ *   1   the state, which no call left, has a side below 2 or above 64 or a grey value above 65,535
+ *   18  fewer than nz layers were taken, or the run was closed before
+ *   4   the run's points with this call's are more than 250,000, or this call's are more than the least of the point, edge and mark rooms holds */
+uint32_t tholbrina_layers_close(uint32_t *state, size_t state_len,
+                                uint32_t *points, size_t points_len,
+                                uint32_t *edges, size_t edges_len,
+                                uint8_t *marks, size_t marks_len,
+                                uint32_t *point_count);
 
 /* The calls on a mesh take what the extractor gives or any other mesh that passes their checks: three coordinates a point, three point numbers a
  * triangle, a mark a point. V is marks_len, and T a third of triangles_len. The mesh is never written. */

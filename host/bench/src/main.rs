@@ -15,7 +15,7 @@ mod times;
 mod vtk;
 
 use calls::{
-    curvature::Curvature, extraction::Extraction, reading::Reading, shells::Shells,
+    curvature::Curvature, extraction::Extraction, layers::Layers, reading::Reading, shells::Shells,
     smoothing::Smoothing, writing::Writing, Call,
 };
 
@@ -23,7 +23,7 @@ type Failure = Box<dyn std::error::Error>;
 
 /// What the command line asks for.
 struct Asked {
-    /// So many runs of the extractor, and a tenth of that, rounded up, of each other call.
+    /// So many runs of the extractor and of the layers, and a tenth of that, rounded up, of each other call.
     runs: usize,
     /// The program that times VTK's filters.
     vtk: Option<String>,
@@ -51,6 +51,7 @@ fn asked(mut words: impl Iterator<Item = String>) -> Result<Asked, Failure> {
 fn peak(call: &str) -> Result<(), Failure> {
     match call {
         Extraction::NAME => memory::said::<Extraction>(),
+        Layers::NAME => memory::said::<Layers>(),
         Smoothing::NAME => memory::said::<Smoothing>(),
         Shells::NAME => memory::said::<Shells>(),
         Curvature::NAME => memory::said::<Curvature>(),

@@ -18,9 +18,7 @@ fn most() -> Result<u64, Failure> {
 /// In the process that is measured: by how much its most memory rises from its start to the call's end.
 pub fn said<C: Call>() -> Result<(), Failure> {
     let start = most()?;
-    let on = Subject::read(&mut BufReader::new(std::io::stdin()))?;
-    let mut rooms = C::lent(&on);
-    if rooms.library(&on) != 0 {
+    if C::once(&mut BufReader::new(std::io::stdin()))? != 0 {
         return Err(format!("{} is refused", C::NAME).into());
     }
     println!("{}", most()? - start);

@@ -119,15 +119,11 @@ impl Subject {
 
     /// Reads what was written, number by number, so that no more memory is taken than the lists have.
     pub fn read(from: &mut impl Read) -> Result<Subject, Failure> {
-        let side = number(from)?;
-        let mut lengths = [0; 7];
-        for length in &mut lengths {
-            *length = number(from)? as usize;
-        }
-        let [samples, points, edges, triangles, marks, records, text] = lengths;
+        let (side, lengths) = head(from)?;
+        let [count, points, edges, triangles, marks, records, text] = lengths;
         Ok(Subject {
             side,
-            samples: list(from, samples, |from| Ok(number(from)? as u16))?,
+            samples: samples(from, count)?,
             points: list(from, points, number)?,
             edges: list(from, edges, number)?,
             triangles: list(from, triangles, number)?,
@@ -136,6 +132,21 @@ impl Subject {
             text: list(from, text, |from| Ok(number(from)? as u8))?,
         })
     }
+}
+
+/// Reads the side and the seven lengths, which come first.
+pub fn head(from: &mut impl Read) -> Result<(u32, [usize; 7]), Failure> {
+    let side = number(from)?;
+    let mut lengths = [0; 7];
+    for length in &mut lengths {
+        *length = number(from)? as usize;
+    }
+    Ok((side, lengths))
+}
+
+/// Reads so many samples, which come next.
+pub fn samples(from: &mut impl Read, count: usize) -> Result<Vec<u16>, Failure> {
+    list(from, count, |from| Ok(number(from)? as u16))
 }
 
 /// A record as numbers of 32 bits, of which two are its volume.

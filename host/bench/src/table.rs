@@ -5,6 +5,7 @@ use std::collections::BTreeMap;
 use crate::calls::{
     curvature::Curvature,
     extraction::Extraction,
+    layers::Layers,
     reading::Reading,
     shells::Shells,
     smoothing::{Smoothing, ROUNDS},
@@ -61,11 +62,12 @@ fn cost<C: Call>(blocks: &[Subject], runs: usize) -> Result<f64, Failure> {
     Ok(time / units as f64)
 }
 
+/// A row; answers the time of the library's call on the whole casting.
 fn row<C: Call>(
     casting: &Casting,
     asked: &Asked,
     beside: &BTreeMap<String, f64>,
-) -> Result<(), Failure> {
+) -> Result<f64, Failure> {
     let whole = &casting.whole;
     let at16 = cost::<C>(&casting.at16, asked.runs)?;
     let at32 = cost::<C>(&casting.at32, asked.runs)?;
@@ -88,22 +90,23 @@ fn row<C: Call>(
             &format!("{:.1}", memory::peak::<C>(whole)?),
         ],
     );
-    Ok(())
+    Ok(library)
 }
 
-/// The six rows of a casting; answers what VTK's program said.
-fn rows(casting: &Casting, asked: &Asked) -> Result<BTreeMap<String, f64>, Failure> {
+/// The seven rows of a casting; answers the time of its layers as a part of the extraction's, and how many triangles VTK's mesh has, where its program is named.
+fn rows(casting: &Casting, asked: &Asked) -> Result<(f64, Option<f64>), Failure> {
     let beside = match &asked.vtk {
         Some(program) => vtk::said(program, &casting.whole.samples, asked.runs)?,
         None => BTreeMap::new(),
     };
-    row::<Extraction>(casting, asked, &beside)?;
+    let whole = row::<Extraction>(casting, asked, &beside)?;
+    let layers = row::<Layers>(casting, asked, &beside)?;
     row::<Smoothing>(casting, asked, &beside)?;
     row::<Shells>(casting, asked, &beside)?;
     row::<Curvature>(casting, asked, &beside)?;
     row::<Writing>(casting, asked, &beside)?;
     row::<Reading>(casting, asked, &beside)?;
-    Ok(beside)
+    Ok((layers / whole, beside.get("triangles").copied()))
 }
 
 /// What the columns are, in sentences.
@@ -115,15 +118,15 @@ fn explain(asked: &Asked) {
         );
     }
     println!(
-        "The library on made-up castings of 64 samples a side at grey value {GREY}, on one thread. A time is the median of {} runs of extraction, {} of each other call.",
+        "The library on made-up castings of 64 samples a side at grey value {GREY}, on one thread. A time is the median of {} runs of extraction and of layers, {} of each other call.",
         Extraction::runs(asked.runs),
         Smoothing::runs(asked.runs)
     );
-    println!("Before it is timed every result is compared with the reference's, to the last bit. Smoothing is {ROUNDS} rounds. Writing is the text of the mesh, and its reference a plain loop that only formats the lines.");
+    println!("Before it is timed every result is compared with the reference's, to the last bit. Layers is the casting handed in layer by layer, with rooms for one layer. Smoothing is {ROUNDS} rounds. Writing is the text of the mesh, and its reference a plain loop that only formats the lines.");
     println!("Reading is that text read back, and its reference a plain loop that only splits the lines and parses the numbers.");
     println!("At 16, 32, 64: nanoseconds per sample, triangle or byte, with the casting cut into blocks of 16 or 32 samples a side, and whole.");
     println!("Reference, VTK: the time of the whole casting as a part of the plain reference's, and of VTK's filter's on one thread.");
-    println!("MB: peak memory of a process that makes the one call on the whole casting, less what it had at its start: the call's input, and its rooms in full.");
+    println!("MB: peak memory of a process that makes the one call on the whole casting, less what it had at its start: the call's input, and its rooms in full. Layers are read one after the other, so that their input is one layer.");
 }
 
 /// The castings, the table, and how large VTK's meshes are.
@@ -139,11 +142,17 @@ pub fn print(asked: &Asked) -> Result<(), Failure> {
         ["voids", "call", "per"],
         ["at 16", "at 32", "at 64", "reference", "VTK", "MB"],
     );
-    let mut counts = Vec::new();
+    let (mut parts, mut counts) = (Vec::new(), Vec::new());
     for casting in &castings {
-        counts.extend(rows(casting, asked)?.get("triangles").copied());
+        let (part, count) = rows(casting, asked)?;
+        parts.push(format!("{part:.3} with {} voids", casting.voids));
+        counts.extend(count);
     }
     println!();
+    println!(
+        "Layer by layer the whole casting takes as a part of the extraction's time: {}.",
+        parts.join(", ")
+    );
     if let [few, more, most] = counts.as_slice() {
         println!(
             "VTK's filters: {}, {}, {}, {}. Those on a mesh take VTK's own, of {few}, {more} and {most} triangles.",

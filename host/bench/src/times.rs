@@ -33,12 +33,7 @@ fn median(runs: usize, mut job: impl FnMut()) -> f64 {
 /// Makes a call on both sides, and fails unless they leave the same. Both rooms are touched by this.
 pub fn compared<C: Call>(on: &Subject) -> Result<C, Failure> {
     let (mut library, mut reference) = (C::lent(on), C::lent(on));
-    if library.library(on) != 0 || reference.reference(on) != 0 {
-        return Err(format!("{} is refused", C::NAME).into());
-    }
-    if !C::same(&library, &reference) {
-        return Err(format!("{}: the library and the reference differ", C::NAME).into());
-    }
+    C::compare(&mut library, &mut reference, on)?;
     Ok(library)
 }
 

@@ -17,6 +17,7 @@ If its size and grey value are given, it is plain samples instead.
 A sample has 16 bits, the low byte first, and x goes fastest.
 --size NX NY NZ gives the samples a side, each {LEAST_SIDE} to {MOST_SIDE}.
 --grey G gives the grey value of the metal's surface, 0 to {most_grey}.
+--layers reads plain samples layer by layer, and holds two layers at most.
 --rounds K smooths the surface K times, 0 to {MOST_ROUNDS}.
 --weight W says how far a round moves a point, 0 to {MOST_WEIGHT}.
 --curvature adds how sharply each shell bends.
@@ -39,6 +40,8 @@ pub struct List {
     pub volume: String,
     /// The sides and the grey value of a file of plain samples.
     pub plain: Option<([u32; 3], u16)>,
+    /// Whether plain samples are taken layer by layer.
+    pub layers: bool,
     pub rounds: Option<u32>,
     pub weight: Option<u32>,
     pub mesh: bool,
@@ -66,6 +69,7 @@ pub fn asked(words: &[String]) -> Result<Asked, String> {
     let mut list = List {
         volume: String::new(),
         plain: None,
+        layers: false,
         rounds: None,
         weight: None,
         mesh: false,
@@ -81,6 +85,7 @@ pub fn asked(words: &[String]) -> Result<Asked, String> {
                 ])
             }
             "--grey" => grey = Some(number(word, &mut rest)?),
+            "--layers" => list.layers = true,
             "--rounds" => list.rounds = Some(number(word, &mut rest)?),
             "--weight" => list.weight = Some(number(word, &mut rest)?),
             "--mesh" => list.mesh = true,
@@ -107,5 +112,10 @@ pub fn asked(words: &[String]) -> Result<Asked, String> {
         (Some(_), None) => return Err(format!("--size is there without --grey; {HELP}.")),
         (None, Some(_)) => return Err(format!("--grey is there without --size; {HELP}.")),
     };
+    if list.layers && list.plain.is_none() {
+        return Err(format!(
+            "--layers is there without --size and --grey; {HELP}."
+        ));
+    }
     Ok(Asked::List(list))
 }

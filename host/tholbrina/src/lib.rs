@@ -1,6 +1,7 @@
 //! What the command line tool does: open a volume or a mesh, call the proved library, and say the list.
 
 mod asked;
+mod layers;
 mod opened;
 mod said;
 mod volume;

@@ -1,10 +1,11 @@
 //! What a file or standard input holds, opened as a surface: the mesh of plain samples or of the text of a grid, or a mesh that is there as text.
 
+use std::fs::File;
 use std::io::Read;
 
 use crate::asked::List;
 use crate::volume::{self, Volume};
-use crate::{refused, sentence};
+use crate::{layers, refused, sentence};
 use viewer::{Refusal, Surface};
 
 pub struct Opened {
@@ -13,13 +14,14 @@ pub struct Opened {
     pub weight: u32,
 }
 
-/// The options go before what the text of a grid says of rounds and weight. A text whose first letter is M is that of a mesh.
+/// The options go before what the text of a grid says of rounds and weight.
 pub fn open(asked: &List, standard_input: &mut dyn Read) -> Result<Opened, String> {
-    let bytes = bytes(&asked.volume, standard_input)?;
+    let name = &asked.volume;
+    let from = &mut *source(name, standard_input)?;
     let opened = match asked.plain {
-        Some((sides, grey)) => extracted(volume::plain(sides, grey, &bytes)?)?,
-        None if bytes.starts_with(b"M") => mesh(&bytes)?,
-        None => extracted(volume::text(&bytes)?)?,
+        Some((sides, grey)) if asked.layers => as_it_is(layers::extract(name, from, sides, grey)?),
+        Some((sides, grey)) => extracted(volume::plain(sides, grey, &bytes(name, from)?)?)?,
+        None => text(&bytes(name, from)?)?,
     };
     Ok(Opened {
         raw: opened.raw,
@@ -28,15 +30,44 @@ pub fn open(asked: &List, standard_input: &mut dyn Read) -> Result<Opened, Strin
     })
 }
 
-fn bytes(name: &str, standard_input: &mut dyn Read) -> Result<Vec<u8>, String> {
+/// The file of this name, or standard input.
+fn source<'a>(name: &str, standard_input: &'a mut dyn Read) -> Result<Box<dyn Read + 'a>, String> {
     if name == "-" {
-        let mut bytes = Vec::new();
-        standard_input
-            .read_to_end(&mut bytes)
-            .map_err(|error| format!("Standard input cannot be read: {error}."))?;
-        return Ok(bytes);
+        return Ok(Box::new(standard_input));
     }
-    std::fs::read(name).map_err(|error| format!("{name} cannot be read: {error}."))
+    let file = File::open(name).map_err(|error| unread(name, error))?;
+    Ok(Box::new(file))
+}
+
+/// What is said of a source that cannot be read.
+pub fn unread(name: &str, error: std::io::Error) -> String {
+    let source = if name == "-" { "Standard input" } else { name };
+    format!("{source} cannot be read: {error}.")
+}
+
+/// All that a source holds.
+fn bytes(name: &str, from: &mut dyn Read) -> Result<Vec<u8>, String> {
+    let mut bytes = Vec::new();
+    from.read_to_end(&mut bytes)
+        .map_err(|error| unread(name, error))?;
+    Ok(bytes)
+}
+
+/// A text whose first letter is M is that of a mesh.
+fn text(bytes: &[u8]) -> Result<Opened, String> {
+    match bytes.starts_with(b"M") {
+        true => mesh(bytes),
+        false => extracted(volume::text(bytes)?),
+    }
+}
+
+/// A surface without rounds of its own.
+fn as_it_is(raw: Surface) -> Opened {
+    Opened {
+        raw,
+        rounds: 0,
+        weight: 0,
+    }
 }
 
 fn extracted(volume: Volume) -> Result<Opened, String> {
@@ -50,11 +81,7 @@ fn extracted(volume: Volume) -> Result<Opened, String> {
 /// The records of a text that is read are those of its mesh, so they need not be kept.
 fn mesh(text: &[u8]) -> Result<Opened, String> {
     let (raw, _) = Surface::read(text).map_err(|(refusal, line)| mesh_refused(refusal, line))?;
-    Ok(Opened {
-        raw,
-        rounds: 0,
-        weight: 0,
-    })
+    Ok(as_it_is(raw))
 }
 
 /// A refusal of a mesh's text, with the line where it has one.

@@ -1,6 +1,6 @@
 //! A volume out of bytes: plain samples, or the text of a grid as the program for small grids has it, of any size.
 
-use crate::refused;
+use crate::{refused, sentence};
 use viewer::{Refusal, LEAST_SIDE, MOST_SIDE};
 
 pub struct Volume {
@@ -18,27 +18,36 @@ fn too_far(sides: [u32; 3]) -> bool {
         .any(|side| !(LEAST_SIDE..=MOST_SIDE).contains(side))
 }
 
-pub fn plain(sides: [u32; 3], grey: u16, bytes: &[u8]) -> Result<Volume, String> {
-    let [nx, ny, nz] = sides;
-    let count = u128::from(nx) * u128::from(ny) * u128::from(nz);
-    if !too_far(sides) && 2 * count != bytes.len() as u128 {
-        return Err(format!(
-            "Refused with number 2: {}; the volume has {} bytes, and {nx} by {ny} by {nz} samples of two bytes are {}.",
-            Refusal::Samples.words(),
-            bytes.len(),
-            2 * count
-        ));
-    }
-    let samples = bytes
+/// Samples of two bytes each, the low byte first. A byte that is left over is no sample.
+pub fn samples(bytes: &[u8]) -> impl Iterator<Item = u16> + '_ {
+    bytes
         .chunks_exact(2)
         .map(|pair| u16::from_le_bytes([pair[0], pair[1]]))
-        .collect();
+}
+
+/// How many bytes plain samples of these sides are, each of which the library takes.
+pub fn size(sides: [u32; 3]) -> usize {
+    2 * sides.map(|side| side as usize).iter().product::<usize>()
+}
+
+/// What a volume of another size has, in words, beside what it must have.
+pub fn other_size(has: &str, sides: [u32; 3]) -> String {
+    let [nx, ny, nz] = sides;
+    let size = size(sides);
+    format!("the volume has {has} bytes, and {nx} by {ny} by {nz} samples of two bytes are {size}")
+}
+
+pub fn plain(sides: [u32; 3], grey: u16, bytes: &[u8]) -> Result<Volume, String> {
+    if !too_far(sides) && bytes.len() != size(sides) {
+        let sizes = other_size(&bytes.len().to_string(), sides);
+        return Err(sentence(Refusal::Samples, "", &sizes));
+    }
     Ok(Volume {
         sides,
         grey,
         rounds: 0,
         weight: 0,
-        samples,
+        samples: samples(bytes).collect(),
     })
 }
 

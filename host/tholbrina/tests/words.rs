@@ -1,24 +1,14 @@
 //! The words of the command line: help, version, what is said of a wrong word, and the manual page beside them.
 
-use std::collections::BTreeMap;
-use std::process::{Command, Output};
+mod tools;
 
-/// Starts the tool, under the emulator that tools/cargo names where the machine is no x86-64.
-fn tool(words: &[impl AsRef<std::ffi::OsStr>]) -> Output {
-    let runner = std::env::var("CARGO_TARGET_X86_64_UNKNOWN_LINUX_GNU_RUNNER").unwrap_or_default();
-    let mut start = runner
-        .split_whitespace()
-        .chain([env!("CARGO_BIN_EXE_tholbrina")]);
-    Command::new(start.next().expect("the tool itself"))
-        .args(start)
-        .args(words)
-        .output()
-        .expect("the tool starts")
-}
+use std::collections::BTreeMap;
+
+use tools::tool;
 
 /// What is said on standard output, alone and with status 0.
 fn said(words: &[&str]) -> String {
-    let output = tool(words);
+    let output = tool(words, b"");
     assert!(output.status.success(), "{words:?}");
     assert_eq!(output.stderr, b"", "{words:?}");
     String::from_utf8(output.stdout).expect("the tool says text")
@@ -33,6 +23,7 @@ If its size and grey value are given, it is plain samples instead.
 A sample has 16 bits, the low byte first, and x goes fastest.
 --size NX NY NZ gives the samples a side, each 2 to 64.
 --grey G gives the grey value of the metal's surface, 0 to 65535.
+--layers reads plain samples layer by layer, and holds two layers at most.
 --rounds K smooths the surface K times, 0 to 100.
 --weight W says how far a round moves a point, 0 to 256.
 --curvature adds how sharply each shell bends.
@@ -80,6 +71,15 @@ fn a_wrong_word_is_named() {
             "--grey is there without --size",
         ),
         (
+            &["list", "a", "--layers"],
+            "--layers is there without --size and --grey",
+        ),
+        (
+            &["list", "a", "--layers", "--size", "2", "2", "2"],
+            "--size is there without --grey",
+        ),
+        (&["list", "a", "--layers", "2"], "2 is one volume too many"),
+        (
             &["list", "a", "--rounds", "x"],
             "x after --rounds is not a whole number",
         ),
@@ -100,7 +100,7 @@ fn a_wrong_word_is_named() {
             ))
         );
     }
-    let output = tool(&["show"]);
+    let output = tool(&["show"], b"");
     assert_eq!(output.status.code(), Some(1));
     assert_eq!(output.stdout, b"");
     assert_eq!(
@@ -112,7 +112,7 @@ fn a_wrong_word_is_named() {
 #[test]
 fn a_word_that_is_no_text() {
     use std::os::unix::ffi::OsStrExt;
-    let output = tool(&[std::ffi::OsStr::from_bytes(b"caf\xe9")]);
+    let output = tool(&[std::ffi::OsStr::from_bytes(b"caf\xe9")], b"");
     assert_eq!(output.status.code(), Some(1));
     assert_eq!(
         String::from_utf8_lossy(&output.stderr),

@@ -29,6 +29,41 @@ mod declared {
             point_count: *mut u32,
             triangle_count: *mut u32,
         ) -> u32;
+        pub fn tholbrina_layers_open(
+            nx: u32,
+            ny: u32,
+            nz: u32,
+            grey: u16,
+            state: *mut u32,
+            state_len: usize,
+        ) -> u32;
+        pub fn tholbrina_layers_next(
+            layer: *const u16,
+            layer_len: usize,
+            state: *mut u32,
+            state_len: usize,
+            points: *mut u32,
+            points_len: usize,
+            edges: *mut u32,
+            edges_len: usize,
+            marks: *mut u8,
+            marks_len: usize,
+            triangles: *mut u32,
+            triangles_len: usize,
+            point_count: *mut u32,
+            triangle_count: *mut u32,
+        ) -> u32;
+        pub fn tholbrina_layers_close(
+            state: *mut u32,
+            state_len: usize,
+            points: *mut u32,
+            points_len: usize,
+            edges: *mut u32,
+            edges_len: usize,
+            marks: *mut u8,
+            marks_len: usize,
+            point_count: *mut u32,
+        ) -> u32;
         pub fn tholbrina_smooth(
             points: *const u32,
             points_len: usize,
@@ -184,6 +219,65 @@ pub fn extract(
             work.len(),
             point_count,
             triangle_count,
+        )
+    }
+}
+
+pub fn layers_open([nx, ny, nz]: [u32; 3], grey: u16, state: &mut [u32]) -> u32 {
+    // SAFETY: the slice is lent for the call with its own length, and the function has no requirement.
+    unsafe { declared::tholbrina_layers_open(nx, ny, nz, grey, state.as_mut_ptr(), state.len()) }
+}
+
+pub fn layers_next(
+    layer: &[u16],
+    state: &mut [u32],
+    points: &mut [u32],
+    edges: &mut [u32],
+    marks: &mut [u8],
+    triangles: &mut [u32],
+    [point_count, triangle_count]: &mut [u32; 2],
+) -> u32 {
+    // SAFETY: each slice is lent for the call with its own length, the mutable ones and the two numbers are all different places, and the function has no
+    // requirement.
+    unsafe {
+        declared::tholbrina_layers_next(
+            layer.as_ptr(),
+            layer.len(),
+            state.as_mut_ptr(),
+            state.len(),
+            points.as_mut_ptr(),
+            points.len(),
+            edges.as_mut_ptr(),
+            edges.len(),
+            marks.as_mut_ptr(),
+            marks.len(),
+            triangles.as_mut_ptr(),
+            triangles.len(),
+            point_count,
+            triangle_count,
+        )
+    }
+}
+
+pub fn layers_close(
+    state: &mut [u32],
+    points: &mut [u32],
+    edges: &mut [u32],
+    marks: &mut [u8],
+    point_count: &mut u32,
+) -> u32 {
+    // SAFETY: each slice is lent for the call with its own length, all of them and the number are different places, and the function has no requirement.
+    unsafe {
+        declared::tholbrina_layers_close(
+            state.as_mut_ptr(),
+            state.len(),
+            points.as_mut_ptr(),
+            points.len(),
+            edges.as_mut_ptr(),
+            edges.len(),
+            marks.as_mut_ptr(),
+            marks.len(),
+            point_count,
         )
     }
 }

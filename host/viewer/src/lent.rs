@@ -18,9 +18,22 @@ pub const MOST_ROUNDS: u32 = 100;
 /// The greatest weight of smoothing, the whole way to the neighbours' mean.
 pub const MOST_WEIGHT: u32 = 256;
 
+/// The length of the room for the state of a run of layers.
+pub const LAYERS_STATE: usize = 4_104;
+
 /// The length of the extractor's work room for so many samples.
 pub const fn extract_work(samples: usize) -> usize {
     3 * samples
+}
+
+/// At least as many points as one call of a run can hand out whose layers have so many samples.
+pub const fn layer_points(samples: usize) -> usize {
+    3 * samples
+}
+
+/// At least as many triangles as one call of a run can hand out whose layers have so many samples.
+pub const fn layer_triangles(samples: usize) -> usize {
+    5 * samples
 }
 
 /// The length of the work room of smoothing.
@@ -53,7 +66,7 @@ pub fn case_edge(case: u8, place: u32) -> u8 {
     c::case_edge(case, place)
 }
 
-/// What the extractor answers: number 0 and the two counts if granted, else the refusal's number and zero counts.
+/// What the extractor answers, or a layer of a run: number 0 and the two counts if granted, else the refusal's number and zero counts.
 #[derive(Clone, Copy, PartialEq, Eq, Debug)]
 pub struct Extracted {
     /// 0 if granted, else the refusal's number.
@@ -99,6 +112,74 @@ pub fn extract(sides: [u32; 3], grey: u16, samples: &[u16], rooms: Rooms<'_>) ->
         number,
         points,
         triangles,
+    }
+}
+
+/// Opens a run of layers at one grey value: a volume of these sides will be handed in one z layer after the other. The room for the state, of exactly
+/// [`LAYERS_STATE`] numbers, is written whole, and lent to each later call as the last granted one left it. Answers 0 if granted, else the refusal's
+/// number: 1, 3.
+pub fn layers_open(sides: [u32; 3], grey: u16, state: &mut [u32]) -> u32 {
+    c::layers_open(sides, grey, state)
+}
+
+/// The rooms for what a layer of a run hands out. A granted call fills them from the front, and the rest of each stays. A room for points or triangles
+/// counts its whole threes.
+pub struct LayerRooms<'a> {
+    /// Three coordinates a point, in 1/256 of a voxel.
+    pub points: &'a mut [u32],
+    /// The number of each point's grid edge.
+    pub edges: &'a mut [u32],
+    /// 1 for a point on an outer face of the grid, else 0.
+    pub marks: &'a mut [u8],
+    /// Three grid edges a triangle, each that of a corner's point.
+    pub triangles: &'a mut [u32],
+}
+
+/// The next layer of a run: sample (x, y) is layer[x + nx y]. Hands out the points of the layer below and the triangles of the cubes between the two, into
+/// lent rooms. A refused call leaves the state. Refusals: 3, 1, 17, 4, 5.
+pub fn layers_next(layer: &[u16], state: &mut [u32], rooms: LayerRooms<'_>) -> Extracted {
+    // The call sets both, whatever it answers.
+    let mut counts = [u32::MAX; 2];
+    let number = c::layers_next(
+        layer,
+        state,
+        rooms.points,
+        rooms.edges,
+        rooms.marks,
+        rooms.triangles,
+        &mut counts,
+    );
+    let [points, triangles] = counts;
+    Extracted {
+        number,
+        points,
+        triangles,
+    }
+}
+
+/// What the closing of a run answers: number 0 and the count of points if granted, else the refusal's number and count 0.
+#[derive(Clone, Copy, PartialEq, Eq, Debug)]
+pub struct Closed {
+    /// 0 if granted, else the refusal's number.
+    pub number: u32,
+    /// How many points there are.
+    pub points: u32,
+}
+
+/// Closes a run whose layers were all handed in, and hands out the points of the last one, as [`layers_next`] does. A refused call leaves the state.
+/// Refusals: 3, 1, 18, 4.
+pub fn layers_close(
+    state: &mut [u32],
+    points: &mut [u32],
+    edges: &mut [u32],
+    marks: &mut [u8],
+) -> Closed {
+    // The call sets it, whatever it answers.
+    let mut count = u32::MAX;
+    let number = c::layers_close(state, points, edges, marks, &mut count);
+    Closed {
+        number,
+        points: count,
     }
 }
 

@@ -1,6 +1,6 @@
 //! The proved library as a Rust program meets it.
 //!
-//! [`Surface`] and [`Mesh`] own the rooms of their calls and answer a [`Refusal`] as an error. The functions beside them are the library's calls on
+//! [`Surface`], [`Layers`] and [`Mesh`] own the rooms of their calls and answer a [`Refusal`] as an error. The functions beside them are the library's calls on
 //! rooms that the caller lends, with the number as document 01 has it. The library checks everything itself; nothing is checked twice.
 //!
 //! ```
@@ -8,6 +8,16 @@
 //! let mut samples = [1000; 27];
 //! samples[13] = 0;
 //! let surface = viewer::Surface::extract([3, 3, 3], 500, &samples)?;
+//!
+//! // The same surface from one layer after the other.
+//! let mut layers = viewer::Layers::open([3, 3, 3], 500)?;
+//! let mut parts = viewer::Parts::default();
+//! for layer in samples.chunks(9) {
+//!     parts.add(layers.next(layer)?);
+//! }
+//! parts.add(layers.close()?);
+//! assert_eq!(parts.put_together(), Some(surface.clone()));
+//!
 //! let smoothed = surface.smooth(1, 64)?;
 //! let shells = smoothed.shells()?;
 //! assert_eq!(shells.records.len(), 1);
@@ -30,10 +40,12 @@
 
 #[allow(unsafe_code)]
 mod c;
+mod layers;
 mod lent;
 mod owned;
 mod refusal;
 
+pub use layers::{Layers, Part, Parts};
 pub use lent::*;
 pub use owned::{Answer, Shells, Surface};
 pub use refusal::Refusal;

@@ -6,7 +6,7 @@ use crate::lent::{extract_work, read_work, shells_work, smooth_work, text_room};
 use crate::Refusal;
 
 /// A surface: its points, the grid edge and the mark of each, and its triangles.
-#[derive(Clone, PartialEq, Eq, Debug)]
+#[derive(Clone, PartialEq, Eq, Debug, Default)]
 pub struct Surface {
     /// Three coordinates a point, in 1/256 of a voxel.
     pub points: Vec<u32>,
@@ -74,7 +74,7 @@ impl Surface {
     }
 
     /// A surface of so many points and triangles, all 0, to be filled.
-    fn blank(points: usize, triangles: usize) -> Surface {
+    pub(crate) fn blank(points: usize, triangles: usize) -> Surface {
         Surface {
             points: vec![0; 3 * points],
             edges: vec![0; points],

@@ -3,7 +3,7 @@
 /// One list of names, numbers and words, from which the enum is made.
 macro_rules! refusals {
     ($($name:ident = $number:literal, $words:literal;)*) => {
-        /// A refusal, with its number and words: document 01's up to 14, and in the words of 3 and 6 what the writer of a text refuses; 15 and 16 are
+        /// A refusal, with its number and words: document 01's up to 14, and in the words of 3 and 6 what the writer of a text refuses; from 15 on they are
         /// document 02's.
         #[derive(Clone, Copy, PartialEq, Eq, Debug)]
         #[repr(u32)]
@@ -42,6 +42,8 @@ refusals! {
     Point = 14, "a point asked for is not below V";
     MeshLine = 15, "a line of a mesh's text is malformed or missing, bytes follow the last line, or an edge number doesn't rise";
     Shells = 16, "the S lines or the shell count of a mesh's text differ from the mesh's own";
+    Layer = 17, "a layer is not nx·ny samples long, or is one too many";
+    Closing = 18, "a run of layers is closed early, or a second time";
 }
 
 impl Refusal {
@@ -54,7 +56,7 @@ impl Refusal {
     ///
     /// # Panics
     ///
-    /// If the number is over 16, which no call answers.
+    /// If the number is over 18, which no call answers.
     pub fn check(number: u32) -> Result<(), Refusal> {
         match number {
             0 => Ok(()),
@@ -78,10 +80,10 @@ mod tests {
     #[test]
     fn each_number_gives_its_refusal() {
         assert_eq!(Refusal::check(0), Ok(()));
-        for number in 1..=16 {
+        for number in 1..=18 {
             let refusal = Refusal::check(number).unwrap_err();
             assert_eq!(refusal.number(), number);
         }
-        assert_eq!(Refusal::ALL.len(), 16);
+        assert_eq!(Refusal::ALL.len(), 18);
     }
 }

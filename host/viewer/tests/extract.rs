@@ -1,98 +1,60 @@
 //! The extractor against the reference: answers, and every place of every room.
 
+#[path = "tools/grids.rs"]
+mod grids;
 mod tools;
 
-use tools::{checkerboard, count, noise, roomy, same, Lengths, Rooms, Seed};
+use grids::{Grid, Holes};
+use tools::{count, roomy, same, Lengths, Rooms, Seed};
+
+/// One call on both sides, with rooms to spare.
+fn same_mesh(grid: &Grid) -> (viewer::Extracted, Rooms) {
+    same(grid.sides, grid.grey, &grid.samples, roomy(grid.sides))
+}
 
 #[test]
 fn each_case_as_a_grid_of_one_cube() {
-    for case in 0..=255u32 {
-        let samples: Vec<u16> = (0..8)
-            .map(|corner| if case >> corner & 1 == 1 { 100 } else { 0 })
-            .collect();
-        let (found, _) = same([2, 2, 2], 50, &samples, roomy([2, 2, 2]));
-        assert_eq!(
-            found.triangles,
-            u32::from(reference::cube::count(case as u8))
-        );
+    for (case, grid) in (0..=255).zip(grids::cubes()) {
+        let (found, _) = same_mesh(&grid);
+        assert_eq!(found.triangles, u32::from(reference::cube::count(case)));
     }
 }
 
 #[test]
 fn random_grids_of_every_shape_up_to_nine() {
-    let mut seed = Seed::new(1);
-    for nx in 2..=9 {
-        for ny in 2..=9 {
-            for nz in 2..=9 {
-                for bound in [2, 3, 256, 65_536] {
-                    let sides = [nx, ny, nz];
-                    let samples = noise(&mut seed, sides, bound);
-                    let grey = seed.below(bound) as u16;
-                    same(sides, grey, &samples, roomy(sides));
-                }
-            }
-        }
+    for grid in grids::up_to_nine() {
+        same_mesh(&grid);
     }
 }
 
 #[test]
 fn plateaus_at_the_grey_value_and_the_ends_of_the_range() {
-    let mut seed = Seed::new(2);
-    let sides = [7, 6, 5];
-    for values in [[0, 65_535], [50, 51], [49, 50], [0, 1], [65_534, 65_535]] {
-        for grey in [0, 1, 49, 50, 51, 65_534, 65_535] {
-            let samples: Vec<u16> = (0..count(sides))
-                .map(|_| values[seed.below(2) as usize])
-                .collect();
-            same(sides, grey, &samples, roomy(sides));
-        }
+    for grid in grids::plateaus() {
+        same_mesh(&grid);
     }
-    for value in [0, 50, 65_535] {
-        for grey in [0, 49, 50, 51, 65_535] {
-            let (found, _) = same(sides, grey, &vec![value; count(sides)], roomy(sides));
-            assert_eq!((found.number, found.points, found.triangles), (0, 0, 0));
-        }
+    for grid in grids::even() {
+        let (found, _) = same_mesh(&grid);
+        assert_eq!((found.number, found.points, found.triangles), (0, 0, 0));
     }
 }
 
 #[test]
 fn checkerboards() {
-    for sides in [
-        [2, 2, 2],
-        [3, 4, 5],
-        [9, 8, 7],
-        [64, 2, 3],
-        [3, 64, 2],
-        [2, 3, 64],
-    ] {
-        same(sides, 500, &checkerboard(sides), roomy(sides));
+    for grid in grids::checkerboards() {
+        same_mesh(&grid);
     }
 }
 
 #[test]
 fn the_largest_sides() {
-    let mut seed = Seed::new(3);
-    for sides in [
-        [64, 64, 64],
-        [64, 2, 64],
-        [2, 2, 64],
-        [64, 64, 2],
-        [63, 64, 3],
-    ] {
-        let mut samples = vec![900; count(sides)];
-        for _ in 0..count(sides) / 20 {
-            let at = seed.below(count(sides) as u64) as usize;
-            samples[at] = seed.below(1000) as u16;
-        }
-        same(sides, 450, &samples, roomy(sides));
+    for grid in grids::large() {
+        same_mesh(&grid);
     }
 }
 
 #[test]
 fn the_figure_of_document_01() {
-    let mut samples = vec![0; 27];
-    samples[13] = 100;
-    let (found, rooms) = same([3, 3, 3], 50, &samples, roomy([3, 3, 3]));
+    let (found, rooms) = same_mesh(&grids::figure());
     assert_eq!((found.number, found.points, found.triangles), (0, 6, 8));
     assert_eq!(rooms.edges[..6], [14, 31, 36, 39, 40, 41]);
     assert_eq!(rooms.marks[..6], [0; 6]);
@@ -201,15 +163,15 @@ fn another_work_room_is_refused_before_the_result_rooms() {
 }
 
 /// The rooms that a grid's mesh fills to the last place.
-fn exact(sides: [u32; 3], grey: u16, samples: &[u16]) -> Lengths {
-    let (found, _) = same(sides, grey, samples, roomy(sides));
+fn exact(grid: &Grid) -> Lengths {
+    let (found, _) = same_mesh(grid);
     let (points, triangles) = (found.points as usize, found.triangles as usize);
     Lengths {
         points: 3 * points,
         edges: points,
         marks: points,
         triangles: 3 * triangles,
-        work: 3 * count(sides),
+        work: 3 * count(grid.sides),
     }
 }
 
@@ -217,17 +179,17 @@ fn exact(sides: [u32; 3], grey: u16, samples: &[u16]) -> Lengths {
 fn rooms_one_too_short_exact_and_long() {
     let mut seed = Seed::new(4);
     for _ in 0..60 {
-        let sides = [
-            2 + seed.below(5) as u32,
-            2 + seed.below(5) as u32,
-            2 + seed.below(5) as u32,
-        ];
-        let samples = noise(&mut seed, sides, 100);
-        let fit = exact(sides, 50, &samples);
+        let grid = grids::small(&mut seed);
+        let fit = exact(&grid);
         if fit.edges == 0 || fit.triangles == 0 {
             continue;
         }
-        let granted = |lengths| assert_eq!(same(sides, 50, &samples, lengths).0.number, 0);
+        let Grid {
+            sides,
+            grey,
+            samples,
+        } = grid;
+        let granted = |lengths| assert_eq!(same(sides, grey, &samples, lengths).0.number, 0);
         granted(fit);
         for more in [1, 2, 3] {
             granted(Lengths {
@@ -247,7 +209,7 @@ fn rooms_one_too_short_exact_and_long() {
                 ..fit
             });
         }
-        let refuses = |number, lengths| refused(sides, 50, &samples, lengths, number);
+        let refuses = |number, lengths| refused(sides, grey, &samples, lengths, number);
         for less in [1, 2, 3] {
             for triangles in [0, fit.triangles - 1, fit.triangles] {
                 let short = Lengths { triangles, ..fit };
@@ -284,52 +246,41 @@ fn rooms_one_too_short_exact_and_long() {
     }
 }
 
-/// Above samples by themselves have six points each inside the grid, five on an outer face, four on an outer edge.
-#[test]
-fn the_limit_on_points() {
-    let sides = [64, 64, 64];
-    refused(sides, 500, &checkerboard(sides), roomy(sides), 4);
-    let mut samples = vec![0; count(sides)];
-    let inside = (1..62).flat_map(|z| (1..63).flat_map(move |y| (1..63).map(move |x| (x, y, z))));
-    for (x, y, z) in inside.filter(|(x, y, z)| (x + y + z) % 2 == 0).take(41_666) {
-        samples[x + 64 * (y + 64 * z)] = 1;
-    }
-    let mut exact = samples.clone();
-    exact[64 * (31 + 64 * 63)] = 1;
-    let (found, _) = same(sides, 1, &exact, roomy(sides));
-    assert_eq!((found.number, found.points), (0, 250_000));
-    samples[31 + 64 * (31 + 64 * 63)] = 1;
-    refused(sides, 1, &samples, roomy(sides), 4);
+/// A grid is refused with rooms to spare.
+fn refused_grid(grid: &Grid, number: u32) {
+    let Grid {
+        sides,
+        grey,
+        samples,
+    } = grid;
+    refused(*sides, *grey, samples, roomy(*sides), number);
 }
 
-/// Holes made up in more and more of a full grid: the triangles pass their limit while the points are still within theirs. Where they do is searched
-/// for too, so that two of the grids that are compared are one hole apart, the first granted and the second refused.
+#[test]
+fn the_limit_on_points() {
+    refused_grid(&grids::checkered([64; 3]), 4);
+    let [exact, more] = grids::most_points();
+    let (found, _) = same_mesh(&exact);
+    assert_eq!((found.number, found.points), (0, 250_000));
+    refused_grid(&more, 4);
+}
+
+/// Where the triangles pass their limit is searched for too, so that two of the grids that are compared are one hole apart, the first granted and the second
+/// refused.
 #[test]
 fn the_limit_on_triangles() {
-    let sides = [64, 64, 64];
-    let mut seed = Seed::new(6);
-    let hole: Vec<bool> = (0..count(sides)).map(|_| seed.below(100) < 30).collect();
-    let samples = |holes: usize| -> Vec<u16> {
-        (0..count(sides))
-            .map(|s| if s < holes && hole[s] { 0 } else { 1000 })
-            .collect()
-    };
-    let number = |holes: usize| same(sides, 500, &samples(holes), roomy(sides)).0.number;
-    let numbers: Vec<u32> = (180_000..=196_000).step_by(1_000).map(number).collect();
+    let holes = Holes::new();
+    let numbers: Vec<u32> = holes
+        .steps()
+        .map(|grid| same_mesh(&grid).0.number)
+        .collect();
     assert_eq!(numbers.first(), Some(&0));
     assert!(numbers.contains(&5), "{numbers:?}");
 
-    let (mut granted, mut refused) = (180_000, 196_000);
-    while refused - granted > 1 {
-        let middle = (granted + refused) / 2;
-        match viewer::Surface::extract(sides, 500, &samples(middle)) {
-            Ok(_) => granted = middle,
-            Err(_) => refused = middle,
-        }
-    }
-    let (found, _) = same(sides, 500, &samples(granted), roomy(sides));
+    let [granted, more] = holes.at_the_limit();
+    let (found, _) = same_mesh(&granted);
     assert!(found.number == 0 && found.triangles > 499_980);
-    assert_eq!(number(refused), 5);
+    refused_grid(&more, 5);
 }
 
 #[test]

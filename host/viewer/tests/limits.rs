@@ -206,6 +206,15 @@ fn the_same_in_every_place() {
     }
     let header = bounds(&file("include/tholbrina.h"), header);
     assert_eq!(header, calls, "the C header and the definitions");
-    let wrapper = bounds(&file("host/viewer/src/lent.rs"), constant);
+    let mut wrapper = bounds(&file("host/viewer/src/lent.rs"), constant);
+    // The length of a state of layers is no bound: it is eight numbers and a layer of the largest sides.
+    let state = wrapper.remove("layers_state");
+    assert_eq!(state, Some(8 + calls["most_side"].pow(2)));
+    assert_eq!(state, Some(reference::layers::STATE as u64));
     assert_eq!(wrapper, calls, "the wrapper and the definitions");
+    let said = format!(
+        "enum {{ tholbrina_layers_state = {} }};",
+        viewer::LAYERS_STATE
+    );
+    assert!(file("include/tholbrina.h").lines().any(|line| line == said));
 }

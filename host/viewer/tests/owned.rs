@@ -1,12 +1,16 @@
 //! The calls with their rooms owned: what they answer of document 01's figures, and each refusal that a caller of theirs can meet, as its enum.
 
-use viewer::{Answer, Mesh, Refusal, Shell, Surface};
+use viewer::{Answer, Layers, Mesh, Parts, Refusal, Shell, Surface};
 
-/// Document 01's figure of 3 by 3 by 3 samples: the centre is 100, all others 0, the grey value 50.
-fn figure() -> Surface {
+/// The samples of document 01's figure, 3 by 3 by 3: the centre is 100, all others 0. The grey value is 50.
+fn samples() -> [u16; 27] {
     let mut samples = [0; 27];
     samples[13] = 100;
-    Surface::extract([3, 3, 3], 50, &samples).unwrap()
+    samples
+}
+
+fn figure() -> Surface {
+    Surface::extract([3, 3, 3], 50, &samples()).unwrap()
 }
 
 #[test]
@@ -71,10 +75,94 @@ fn a_grid_is_refused() {
     assert_eq!(refused([1, 2, 2], &[0; 4]), Refusal::Sides);
     assert_eq!(refused([2, 2, 2], &[0; 7]), Refusal::Samples);
     assert_eq!(refused([64; 3], &vec![0; 300_000]), Refusal::Samples);
-    let checkered: Vec<u16> = (0..64 * 64 * 64)
+    assert_eq!(refused([64; 3], &checkered()), Refusal::Points);
+}
+
+/// Samples 0 and 1 in turn along every axis, 64 a side.
+fn checkered() -> Vec<u16> {
+    (0..64 * 64 * 64)
         .map(|s| ((s ^ s >> 6 ^ s >> 12) & 1) as u16)
-        .collect();
-    assert_eq!(refused([64; 3], &checkered), Refusal::Points);
+        .collect()
+}
+
+/// The first layer hands out nothing, the two others all that the figure has, and the closing nothing. Put together it is the figure.
+#[test]
+fn the_figure_layer_by_layer() {
+    let mut layers = Layers::open([3, 3, 3], 50).unwrap();
+    let mut parts = Parts::default();
+    let (mut edges, mut triangles) = (Vec::new(), Vec::new());
+    for layer in samples().chunks(9) {
+        let part = layers.next(layer).unwrap();
+        assert_eq!(part.points.len(), 3 * part.edges.len());
+        assert_eq!(part.marks, vec![0; part.edges.len()]);
+        edges.push(part.edges.to_vec());
+        triangles.push(part.triangles.len() / 3);
+        parts.add(part);
+    }
+    assert_eq!(edges, [vec![], vec![14], vec![31, 36, 39, 40, 41]]);
+    assert_eq!(triangles, [0, 4, 4]);
+    let last = layers.close().unwrap();
+    assert!(last.edges.is_empty() && last.triangles.is_empty());
+    parts.add(last);
+    assert_eq!(parts.put_together(), Some(figure()));
+}
+
+/// Two samples above in the last layer: its points are handed out by the closing, and a corner is without its point before it.
+#[test]
+fn parts_of_a_run_that_is_not_closed() {
+    let volume = [0, 0, 0, 0, 9, 9, 0, 0];
+    let mut layers = Layers::open([2, 2, 2], 5).unwrap();
+    let mut parts = Parts::default();
+    assert_eq!(parts.clone().put_together(), Some(Surface::default()));
+    for layer in volume.chunks(4) {
+        parts.add(layers.next(layer).unwrap());
+    }
+    assert_eq!(parts.clone().put_together(), None);
+    let last = layers.close().unwrap();
+    assert_eq!((last.edges, last.marks), (&[13, 16][..], &[1, 1][..]));
+    parts.add(last);
+    let whole = Surface::extract([2, 2, 2], 5, &volume).unwrap();
+    assert_eq!(parts.put_together(), Some(whole));
+}
+
+/// Each refusal leaves the run where it was: it goes on, and a copy of it too.
+#[test]
+fn a_layer_or_a_closing_is_refused() {
+    let open = |sides| Layers::open(sides, 50).map(drop);
+    for sides in [[1, 3, 3], [3, 65, 3], [3, 3, 0], [u32::MAX; 3]] {
+        assert_eq!(open(sides), Err(Refusal::Sides));
+    }
+    let mut layers = Layers::open([3, 3, 3], 50).unwrap();
+    let mut parts = Parts::default();
+    for layer in samples().chunks(9) {
+        for wrong in [&[][..], &[0; 8], &[0; 10], &[0; 27]] {
+            assert_eq!(layers.next(wrong), Err(Refusal::Layer));
+        }
+        assert_eq!(layers.close(), Err(Refusal::Closing));
+        assert!(layers.clone().next(&[100; 9]).is_ok());
+        parts.add(layers.next(layer).unwrap());
+    }
+    assert_eq!(layers.next(&[0; 9]), Err(Refusal::Layer));
+    parts.add(layers.close().unwrap());
+    assert_eq!(layers.close(), Err(Refusal::Closing));
+    assert_eq!(layers.next(&[0; 9]), Err(Refusal::Layer));
+    assert_eq!(parts.put_together(), Some(figure()));
+}
+
+/// The checkerboard has 12,160 points a layer, and the run stays at the layer that brings them past 250,000.
+#[test]
+fn a_run_is_refused_for_its_totals() {
+    let checkered = checkered();
+    let mut layers = Layers::open([64; 3], 1).unwrap();
+    let mut points = 0;
+    for layer in checkered.chunks(64 * 64).take(21) {
+        points += layers.next(layer).unwrap().edges.len();
+    }
+    assert_eq!(points, 20 * 12_160);
+    for layer in checkered.chunks(64 * 64).skip(21).take(2) {
+        assert_eq!(layers.next(layer), Err(Refusal::Points));
+    }
+    assert_eq!(layers.close(), Err(Refusal::Closing));
 }
 
 /// What all three calls on a mesh answer.

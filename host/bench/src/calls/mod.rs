@@ -1,13 +1,17 @@
-//! The six calls that are timed, each with its rooms.
+//! The seven calls that are timed, each with its rooms. A run of layers stands for one.
 
 pub mod curvature;
 pub mod extraction;
+pub mod layers;
 pub mod reading;
 pub mod shells;
 pub mod smoothing;
 pub mod writing;
 
+use std::io::Read;
+
 use crate::subject::Subject;
+use crate::Failure;
 
 /// A call of the library and of the reference, and the rooms that either is lent.
 pub trait Call: Sized {
@@ -29,6 +33,18 @@ pub trait Call: Sized {
     /// Whether the library's call left the same as the reference's, to the last bit.
     fn same(library: &Self, reference: &Self) -> bool;
 
+    /// Makes the call on both sides, and fails unless it is granted and leaves the same on both.
+    fn compare(library: &mut Self, reference: &mut Self, on: &Subject) -> Result<(), Failure> {
+        let granted = library.library(on) == 0 && reference.reference(on) == 0;
+        agreed(granted, library, reference)
+    }
+
+    /// Makes the library's call once, on what is read; answers the refusal's number.
+    fn once(from: &mut impl Read) -> Result<u32, Failure> {
+        let on = Subject::read(from)?;
+        Ok(Self::lent(&on).library(&on))
+    }
+
     /// What the call reads, and nothing else.
     fn input(on: &Subject) -> Subject {
         on.meshed()
@@ -43,4 +59,15 @@ pub trait Call: Sized {
     fn runs(asked: usize) -> usize {
         asked.div_ceil(10)
     }
+}
+
+/// Fails unless a call was granted and left the same on both sides.
+fn agreed<C: Call>(granted: bool, library: &C, reference: &C) -> Result<(), Failure> {
+    if !granted {
+        return Err(format!("{} is refused", C::NAME).into());
+    }
+    if !C::same(library, reference) {
+        return Err(format!("{}: the library and the reference differ", C::NAME).into());
+    }
+    Ok(())
 }

@@ -1,7 +1,9 @@
 //! The tool as a test starts it, and the files that it is given.
 #![allow(dead_code)]
 
-use std::io::{empty, Read};
+use std::ffi::OsStr;
+use std::io::{empty, Read, Write};
+use std::process::{Command, Output, Stdio};
 
 /// What the tool says to these words and this standard input.
 pub fn run_on(words: &[&str], input: &mut dyn Read) -> Result<String, String> {
@@ -12,6 +14,32 @@ pub fn run_on(words: &[&str], input: &mut dyn Read) -> Result<String, String> {
 /// What the tool says to these words.
 pub fn run(words: &[&str]) -> Result<String, String> {
     run_on(words, &mut empty())
+}
+
+/// Starts the tool with these bytes on its standard input, under the emulator that tools/cargo names where the machine is no x86-64.
+pub fn tool(words: &[impl AsRef<OsStr>], input: &[u8]) -> Output {
+    let runner = std::env::var("CARGO_TARGET_X86_64_UNKNOWN_LINUX_GNU_RUNNER").unwrap_or_default();
+    let mut start = runner
+        .split_whitespace()
+        .chain([env!("CARGO_BIN_EXE_tholbrina")]);
+    let mut tool = Command::new(start.next().expect("the tool itself"))
+        .args(start)
+        .args(words)
+        .stdin(Stdio::piped())
+        .stdout(Stdio::piped())
+        .stderr(Stdio::piped())
+        .spawn()
+        .expect("the tool starts");
+    // A tool that ends before it has read all closes its end.
+    let mut standard_input = tool.stdin.take().expect("the tool has a standard input");
+    let _ = standard_input.write_all(input);
+    drop(standard_input);
+    tool.wait_with_output().expect("the tool ends")
+}
+
+/// Plain samples as bytes.
+pub fn bytes_of(samples: &[u16]) -> Vec<u8> {
+    samples.iter().flat_map(|s| s.to_le_bytes()).collect()
 }
 
 /// A file that is gone when the test is done.
@@ -26,8 +54,7 @@ impl Volume {
 
     /// Plain samples.
     pub fn of(name: &str, samples: &[u16]) -> Volume {
-        let bytes: Vec<u8> = samples.iter().flat_map(|s| s.to_le_bytes()).collect();
-        Volume::new(name, &bytes)
+        Volume::new(name, &bytes_of(samples))
     }
 
     pub fn path(&self) -> &str {
