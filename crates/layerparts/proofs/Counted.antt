@@ -1,7 +1,7 @@
 -- The points of a stretch, and the points and triangles of a layer, counted from words.
-use mathlib.Core.Path.{_≡_, refl, ap, sym, _∙_}
+use mathlib.Core.Path.{_≡_, ap, sym, _∙_}
 use mathlib.Core.List.{List}
-use mathlib.Core.Bool.{Bool, true, false, _&&_}
+use mathlib.Core.Bool.{Bool, _&&_}
 use Prim.Native.Nat.{ℕ, _+_, _*_, _-_, _^_, _<_, _≤_}
 use native.Mathlib.Nat.{mul-assoc, mul-le-mul}
 use native.Mathlib.Omega.{arith}
@@ -17,15 +17,17 @@ use Rattle.laws.proofs.Keep.{length-from, keep-most}
 use Rattle.laws.proofs.Ones.{ones-bits}
 use Rattle.cube.specs.Answer.{mostCaseTriangles, count, triangles}
 use Rattle.cube.proofs.Corners.{case-small}
+use Rattle.grid.specs.Grid.{Size, axes, crossed}
 use Rattle.grid.specs.Mode.{cubes}
 use Rattle.grid.specs.Mesh.{cornerSite, caseAt, gridEdge, cubeTriangles}
 use Rattle.rows.specs.declared.Sides.{Sides}
 use Rattle.rows.specs.declared.Crossed.{Crossed}
-use Rattle.rows.specs.Rows.{sizeOf, wordsAbove, cut, layerFirst, CutWords}
-use Rattle.cuberows.specs.Cubes.{cubeCase, layerCount}
+use Rattle.rows.specs.Rows.{sizeOf, wordsAbove, cut, CutWords}
+use Rattle.cuberows.specs.Cubes.{layerCount}
 use Rattle.cuberows.proofs.Cases.{count-most}
 use Rattle.pointplaces.specs.Places.{crossings}
-use Rattle.layerparts.specs.Layer.{layerEdges, layerTriangles}
+use Rattle.layerstate.specs.State.{layerSize}
+use Rattle.layerparts.specs.Layer.{firstSample, layerEdges, layerTriangles}
 use Rattle.layerparts.proofs.Local.{layers-on}
 
 module _ (sides : Sides) (masks : List ℕ) (s many : ℕ) (few : many ≤ wordBits) where
@@ -67,7 +69,7 @@ module _ (sides : Sides) (masks : List ℕ) (s many : ℕ) (few : many ≤ wordB
         ap (λ n. sumTo n (λ j. at (3 * s + j))) long,
       )
 
--- the triangles of the cubes over a layer, counted by the words, and how many points and triangles there are at most
+-- the triangles of the cubes over a layer, counted by the words
 module _ (sides : Sides) (masks : List ℕ) (z : ℕ) where
   pub layer-count : layerCount sides masks z ≡ length (layerTriangles (sizeOf sides) (wordsAbove sides masks) z)
   unfolding layerCount count cubeTriangles layerTriangles
@@ -81,24 +83,28 @@ module _ (sides : Sides) (masks : List ℕ) (z : ℕ) where
       (λ y ly. length-join (sides .nx - 1) (cube y)
       ∙ sum-cong (sides .nx - 1) _ _ (λ x lx. length-map (triangles (caseAt n above x y z)) (rename (gridEdge cubes n x y z)))))
 
-  cube-most : (x y : ℕ) → count (cubeCase sides masks z x y) ≤ mostCaseTriangles
-  unfolding caseAt
-  cube-most x y = count-most (cubeCase sides masks z x y) (case-small (λ c. wordsAbove sides masks (cornerSite (sizeOf sides) x y z c)))
+-- how many points a layer has at most, and triangles the cubes over it
+module _ (n : Size) (above : ℕ → Bool) (z : ℕ) where
+  cube-most : (x y : ℕ) → length (cubeTriangles cubes n above x y z) ≤ mostCaseTriangles
+  unfolding cubeTriangles count caseAt
+  cube-most x y =
+      let k = caseAt n above x y z in
+      omega (arith, length-map (triangles k) (rename (gridEdge cubes n x y z)), count-most k (case-small (λ c. above (cornerSite n x y z c))))
 
-  pub triangles-most : length (layerTriangles (sizeOf sides) (wordsAbove sides masks) z) ≤ mostCaseTriangles * (sides .nx * sides .ny)
-  unfolding layerCount
+  pub triangles-most : length (layerTriangles n above z) ≤ mostCaseTriangles * layerSize n
+  unfolding layerTriangles
   triangles-most =
-      let row = mostCaseTriangles * (sides .nx - 1) in
+      let cube : ℕ → ℕ → List Triangle = λ y x. cubeTriangles cubes n above x y z in
+      let row = mostCaseTriangles * (n .nx - 1) in
       omega (
         arith,
-        layer-count,
-        sum-most row (sides .ny - 1) (λ y. sumTo (sides .nx - 1) (λ x. count (cubeCase sides masks z x y)))
-            (λ y l. sum-most mostCaseTriangles (sides .nx - 1) (λ x. count (cubeCase sides masks z x y)) (λ x k. cube-most x y)),
-        mul-le-mul {n₁ = row} {m₁ = sides .ny - 1} {n₂ = mostCaseTriangles * sides .nx} {m₂ = sides .ny} (omega arith) (omega arith),
-        mul-assoc mostCaseTriangles (sides .nx) (sides .ny),
+        length-join (n .ny - 1) (λ y. joinTo (n .nx - 1) (cube y)),
+        sum-most row (n .ny - 1) (λ y. length (joinTo (n .nx - 1) (cube y)))
+            (λ y l. omega (arith, length-join (n .nx - 1) (cube y), sum-most mostCaseTriangles (n .nx - 1) (λ x. length (cube y x)) (λ x k. cube-most x y))),
+        mul-le-mul {n₁ = row} {m₁ = n .ny - 1} {n₂ = mostCaseTriangles * n .nx} {m₂ = n .ny} (omega arith) (omega arith),
+        mul-assoc mostCaseTriangles (n .nx) (n .ny),
       )
 
-  pub points-most : length (layerEdges (sizeOf sides) (wordsAbove sides masks) z) ≤ 3 * (sides .nx * sides .ny)
+  pub points-most : length (layerEdges n above z) ≤ 3 * layerSize n
   unfolding layerEdges
-  points-most =
-      omega (arith, keep-most (3 * layerFirst sides z) (3 * layerFirst sides (z + 1)) (cut sides masks), layers-on (sizeOf sides) z 1)
+  points-most = omega (arith, keep-most (3 * firstSample n z) (3 * firstSample n (z + 1)) (crossed axes n above), layers-on n z 1)

@@ -1,13 +1,13 @@
 -- What a layer of a volume has depends on its samples and on the next layer's, whatever the rest of the volume is.
-use mathlib.Core.Path.{_≡_, refl, ap, ap₂, sym, _∙_}
-use mathlib.Core.List.{List, [], map, flatMap}
+use mathlib.Core.Path.{_≡_, refl, ap, ap₂, _∙_}
+use mathlib.Core.List.{List, flatMap}
 use mathlib.Core.Bool.{Bool, true, false, _&&_, xor}
 use Prim.Native.Nat.{ℕ, zero, suc, _+_, _*_, _-_, _/_, _%_, _^_, _<_, _≤_}
 use native.Mathlib.Nat.{mul-add, mul-assoc, one-le-mul, le-mul-of-pos-right}
 use native.Mathlib.Omega.{arith}
 use lib.Dec.{leb}
 use lib.ListN.{getD}
-use Rattle.laws.specs.Range.{joinTo, keepFrom}
+use Rattle.laws.specs.Range.{keepFrom}
 use Rattle.laws.proofs.Ranges.{join-cong}
 use Rattle.laws.proofs.Tests.{both}
 use Rattle.laws.proofs.Keep.{keep-cong-from, keep-passes}

@@ -1,20 +1,14 @@
--- How much a layer can have, and what is too many.
+-- What is too many, and what is then refused.
 use mathlib.Core.Path.{_≡_, refl, ap₂}
 use mathlib.Core.Bool.{Bool, true, false, cond, _||_}
-use Prim.Native.Nat.{ℕ, _+_, _*_, _≤_}
-use native.Mathlib.Nat.{mul-le-mul}
+use Prim.Native.Nat.{ℕ, _+_, _≤_}
 use native.Mathlib.Omega.{arith}
 use lib.Dec.{ltb}
 use borrow.Author.Tests.{le-ltb, ltb-false}
 use Rattle.laws.proofs.Tests.{neither}
-use Rattle.grid.specs.Limits.{mostSide, mostPoints, mostTriangles}
-use Rattle.grid.specs.Work.{SidesFit}
-use Rattle.layerstate.specs.State.{mostLayer}
+use Rattle.grid.specs.Limits.{mostPoints, mostTriangles}
 use Rattle.layerstate.specs.declared.Head.{Head}
 use Rattle.layerparts.specs.Parts.{tooMany, refusalFor}
-
-pub layer-most : {nx ny nz : ℕ} → SidesFit nx ny nz → nx * ny ≤ mostLayer
-layer-most {nx} {ny} fit = mul-le-mul {n₁ = nx} {m₁ = ny} {n₂ = mostSide} {m₂ = mostSide} (fit .most-x) (fit .most-y)
 
 -- what is not too many is within the bound and the room
 module _ (most soFar room count : ℕ) where

@@ -1,13 +1,11 @@
 -- What the words say of the first lent layer is what the samples say, and what is written for its cubes are their triangles.
-use mathlib.Core.Path.{_≡_, refl, ap, fun-ext, sym, _∙_}
+use mathlib.Core.Path.{_≡_, refl, ap, sym, _∙_}
 use mathlib.Core.List.{List, [], map, map-id}
-use mathlib.Core.Bool.{Bool}
 use Prim.Native.Nat.{ℕ, _+_, _*_, _-_, _<_, _≤_}
 use native.Mathlib.Decide.{decLt}
 use native.Mathlib.Nat.{mul-assoc}
 use native.Mathlib.Omega.{arith}
 use lib.Dec.{leb}
-use lib.ListN.{length, getD}
 use Rattle.laws.specs.Range.{joinTo}
 use Rattle.laws.specs.Mesh.{Triangle, cornersOf, flat}
 use Rattle.laws.proofs.Ranges.{join-cong, flat-join}
@@ -23,7 +21,6 @@ use Rattle.rows.proofs.Window.{sample-lent, above-lent}
 use Rattle.triangles.specs.Names.{edgeOffset, gridNames, layerNames}
 use Rattle.triangles.proofs.Named.{cube-named}
 use Rattle.pointplaces.specs.Places.{Given}
-use Rattle.layerstate.specs.State.{layerSize}
 use Rattle.layerparts.specs.Layer.{firstSample, AlikeFrom, layerTriangles}
 use Rattle.layerparts.specs.Parts.{wordEdges, lentEdges}
 use Rattle.layerparts.proofs.Local.{layers-on, layers-rise, edges-alike, triangles-alike}

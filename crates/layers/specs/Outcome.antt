@@ -1,6 +1,6 @@
 -- What the three calls leave behind: number, counts, result rooms and state room, whole, with the refusals in their order.
 use mathlib.Core.List.{List, _++_}
-use mathlib.Core.Bool.{Bool, cond, not, _||_}
+use mathlib.Core.Bool.{cond, not, _||_}
 use Prim.Native.Nat.{ℕ, zero, suc, _+_, _-_, _/_, min}
 use lib.Dec.{eqb, leb, ltb}
 use lib.ListN.{length}

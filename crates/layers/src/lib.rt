@@ -1,9 +1,7 @@
 // Layers as they come off the scanner (document 02, request (v)): the extractor in three calls, an opening, one call a layer, and a closing, with two layers held and no more.
 ghost use mathlib.Core.Path.{_≡_};
 ghost use mathlib.Core.List.{[]};
-ghost use mathlib.Core.Bool.{not, _||_};
 ghost use Prim.Native.Nat.{_+_, _*_, _/_, _≤_, _<_, min};
-ghost use lib.Dec.{eqb, leb, ltb};
 ghost use lib.ListN.{length};
 ghost use Rattle.grid.specs.Limits.{mostNumber, mostSide};
 ghost use Rattle.grid.specs.Work.{SidesFit};
@@ -179,20 +177,6 @@ fn take_over(
     )
 }
 
-// Is it not the turn of a layer of so many samples?
-fn is_amiss(head: Head, samples: usize) -> bool
-    requires { ⌜ SidesFit (head .nx) (head .ny) (head .nz) ⌝ }
-    ensures { λ r. ⌜ r ≡ (not (eqb samples (head .nx * head .ny)) || (leb (head .nz) (head .taken) || not (eqb (head .closed) 0))) ⌝ }
-{
-    if samples != (head.nx * head.ny) as usize {
-        return true;
-    }
-    if head.nz <= head.taken {
-        return true;
-    }
-    head.closed != 0
-}
-
 // One layer of a run: the points of the layer below and the triangles of the cubes between, into lent rooms.
 pub fn next(
     layer: &[u16],
@@ -214,7 +198,7 @@ pub fn next(
     if !layerstate::is_state(head) {
         return nothing(1);
     }
-    if is_amiss(head, layer.len()) {
+    if layerstate::is_amiss(head, layer.len()) {
         return nothing(17);
     }
     if head.taken == 0 {
@@ -295,16 +279,6 @@ fn close_over(
     )
 }
 
-// Is it too early to close the run, or is it closed?
-fn is_early(head: Head) -> bool
-    ensures { λ r. ⌜ r ≡ (ltb (head .taken) (head .nz) || not (eqb (head .closed) 0)) ⌝ }
-{
-    if head.taken < head.nz {
-        return true;
-    }
-    head.closed != 0
-}
-
 // The closing of a run: the points of the last layer, into lent rooms.
 pub fn close(state: &mut [u32], points: &mut [u32], edges: &mut [u32], marks: &mut [u8]) -> Closed
     ensures { λ r.
@@ -319,7 +293,7 @@ pub fn close(state: &mut [u32], points: &mut [u32], edges: &mut [u32], marks: &m
     if !layerstate::is_state(head) {
         return not_closed(1);
     }
-    if is_early(head) {
+    if layerstate::is_early(head) {
         return not_closed(18);
     }
     close_over(head, state, points, edges, marks)

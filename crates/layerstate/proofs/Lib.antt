@@ -1,2 +1,2 @@
--- The kept layer, sample by sample.
+-- How long a layer is at most, and the kept layer sample by sample.
 pub mod Kept

@@ -1,13 +1,14 @@
 // The state of a run of layers in its room: read, and written by a granted call.
 ghost use mathlib.Core.Path.{_≡_};
-ghost use mathlib.Core.Bool.{_&&_};
-ghost use Prim.Native.Nat.{_+_, _≤_, _<_, _^_};
-ghost use lib.Dec.{leb};
+ghost use mathlib.Core.Bool.{not, _&&_, _||_};
+ghost use Prim.Native.Nat.{_+_, _*_, _≤_, _<_, _^_};
+ghost use lib.Dec.{eqb, leb, ltb};
 ghost use lib.ListN.{length, getD};
 ghost use lib.Seq.{sets};
 ghost use Rattle.laws.specs.Room.{laid};
 ghost use Rattle.grid.specs.Limits.{mostNumber};
 ghost use Rattle.grid.specs.Sides.{sidesFit};
+ghost use Rattle.grid.specs.Work.{SidesFit};
 ghost use Rattle.layerstate.specs.State.{takenAt, pointsAt, trianglesAt, keptAt, mostLayer, stateLength, keptIn, openedRoom, layeredRoom, closedRoom};
 ghost use Rattle.layerstate.specs.Heads.{headIn};
 use grid::limits::MOST_NUMBER;
@@ -69,6 +70,37 @@ pub fn is_state(head: Head) -> bool
         return head.grey as u64 <= MOST_NUMBER;
     }
     false
+}
+
+// Is the run closed?
+fn is_closed(head: Head) -> bool
+    ensures { λ r. ⌜ r ≡ not (eqb (head .closed) 0) ⌝ }
+{
+    head.closed != 0
+}
+
+// Is it not the turn of a layer of so many samples?
+pub fn is_amiss(head: Head, samples: usize) -> bool
+    requires { ⌜ SidesFit (head .nx) (head .ny) (head .nz) ⌝ }
+    ensures { λ r. ⌜ r ≡ (not (eqb samples (head .nx * head .ny)) || (leb (head .nz) (head .taken) || not (eqb (head .closed) 0))) ⌝ }
+{
+    if samples != (head.nx * head.ny) as usize {
+        return true;
+    }
+    if head.nz <= head.taken {
+        return true;
+    }
+    is_closed(head)
+}
+
+// Is it too early to close the run, or is it closed?
+pub fn is_early(head: Head) -> bool
+    ensures { λ r. ⌜ r ≡ (ltb (head .taken) (head .nz) || not (eqb (head .closed) 0)) ⌝ }
+{
+    if head.taken < head.nz {
+        return true;
+    }
+    is_closed(head)
 }
 
 // The first samples of the kept layer, to the front of a room.

@@ -4,7 +4,7 @@ use mathlib.Core.Bool.{false≢true}
 use native.Mathlib.Omega.{arith}
 use borrow.Author.Tests.{not-true}
 use borrow.Author.Needs.{needs}
-use Rattle.layerparts.proofs.Most.{layer-most}
+use Rattle.layerstate.proofs.Kept.{layer-most}
 use Rattle.layerparts.proofs.fits_surely.Statement.{statement}
 use Rattle.layerparts.proofs.fits_surely.Tie as tie
 

@@ -7,9 +7,10 @@ use lib.ListN.{length}
 use denote.Ref.{now}
 use Rattle.edgepoints.specs.EdgePoint.{PointRooms, pointRooms}
 use Rattle.pointplaces.proofs.Placing.{room-less, places-laid, edges-laid, marks-laid}
+use Rattle.rows.specs.Rows.{sizeOf, wordsAbove}
+use Rattle.layerstate.proofs.Kept.{layer-most}
 use Rattle.layerparts.specs.Layer.{layerEdges}
 use Rattle.layerparts.specs.Parts.{wordEdges, lentEdges, pointsLaid}
-use Rattle.layerparts.proofs.Most.{layer-most}
 use Rattle.layerparts.proofs.Counted.{points-most}
 use Rattle.layerparts.proofs.Said.{edges-said}
 use Rattle.layerparts.proofs.hand_points.Statement.{statement}
@@ -51,7 +52,7 @@ unfolding wordEdges
 cast-result c =
     let p = placed-of c in
     let s = begun p in
-    omega (arith, counted p, points-most (s .args .sides) (now (s .args .masks)) (s .args .sides .below), layer-most (s .pre .0 .ready .fit))
+    omega (arith, counted p, points-most (sizeOf (s .args .sides)) (wordsAbove (s .args .sides) (now (s .args .masks))) (s .args .sides .below), layer-most (s .pre .0 .ready .fit))
 
 same-length : tie.Need-same-length
 same-length c = placed-of c .place-layer .kept .1 .1 .1 .1 .1 .1 .0

@@ -14,9 +14,9 @@ use Rattle.rows.specs.Rows.{sizeOf, wordsAbove}
 use Rattle.triangles.specs.Names.{layerNames}
 use Rattle.triangles.proofs.Names.{written-length}
 use Rattle.triangles.proofs.Named.{edge-nameable}
+use Rattle.layerstate.proofs.Kept.{layer-most}
 use Rattle.layerparts.specs.Layer.{layerTriangles}
 use Rattle.layerparts.specs.Parts.{triangleCount}
-use Rattle.layerparts.proofs.Most.{layer-most}
 use Rattle.layerparts.proofs.Counted.{triangles-most}
 use Rattle.layerparts.proofs.Said.{layer-numbers}
 use Rattle.layerparts.proofs.hand_triangles.Statement.{statement}
@@ -87,7 +87,7 @@ unfolding triangleCount
 cast-result c =
     let s = begun (c .before .before .before .before .before .before .before .before) in
     let a = s .args in
-    omega (arith, end c, triangles-most (a .sides) (now (a .masks)) (a .sides .below), layer-most (s .pre .0 .fit))
+    omega (arith, end c, triangles-most (sizeOf (a .sides)) (wordsAbove (a .sides) (now (a .masks))) (a .sides .below), layer-most (s .pre .0 .fit))
 
 same-length : tie.Need-same-length
 same-length c = written-length (c .before .before .write-layer .ensures)

@@ -5,6 +5,7 @@ use lib.ListN.{length}
 use denote.Ref.{now}
 use borrow.Author.Needs.{needs}
 use Rattle.grid.specs.Limits.{mostPoints, mostTriangles}
+use Rattle.rows.specs.Rows.{sizeOf, wordsAbove}
 use Rattle.layerparts.specs.Parts.{tooMany, wordEdges, triangleCount}
 use Rattle.layerparts.proofs.Most.{fewer, refused-points, refused-triangles, refused-none}
 use Rattle.layerparts.proofs.Counted.{layer-count, points-most, triangles-most}
@@ -19,8 +20,8 @@ unfolding wordEdges triangleCount
 returns c =
     let a = c .before .before .before .args in
     let sure = c .before .fits-surely .ensures (c .if1 .taken) in
-    refused-none (a .head) (a .room) (a .triangle-room) _ _ (fewer mostPoints _ _ _ _ (points-most (a .sides) (now (a .masks)) (a .sides .below)) (sure .points))
-    (fewer mostTriangles _ _ _ _ (triangles-most (a .sides) (now (a .masks)) (a .sides .below)) (sure .triangles))
+    refused-none (a .head) (a .room) (a .triangle-room) _ _ (fewer mostPoints _ _ _ _ (points-most (sizeOf (a .sides)) (wordsAbove (a .sides) (now (a .masks))) (a .sides .below)) (sure .points))
+    (fewer mostTriangles _ _ _ _ (triangles-most (sizeOf (a .sides)) (wordsAbove (a .sides) (now (a .masks))) (a .sides .below)) (sure .triangles))
 
 count-points-requires : tie.Need-count-points-requires
 count-points-requires c κs = let pre = c .before .before .before .pre in (pre .0, omega (arith, pre .1))

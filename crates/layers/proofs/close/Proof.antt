@@ -74,7 +74,7 @@ not-closed-requires-2 : tie.Need-not-closed-requires-2
 not-closed-requires-2 c κs = search needs
 
 same-length : tie.Need-same-length
-same-length c = search needs
+same-length c = refl
 
 returns-2 : tie.Need-returns-2
 returns-2 c =
@@ -90,7 +90,7 @@ not-closed-requires-3 : tie.Need-not-closed-requires-3
 not-closed-requires-3 c κs = search needs
 
 same-length-2 : tie.Need-same-length-2
-same-length-2 c = search needs
+same-length-2 c = refl
 
 returns-3 : tie.Need-returns-3
 returns-3 c =
@@ -107,16 +107,16 @@ close-over-requires c κs =
     ((h .read-head .ensures, h .before .before .if1 .left), (sides-within _ _ _ (both-fit e .0), leb-true _ _ (both-fit e .1)))
 
 same-length-3 : tie.Need-same-length-3
-same-length-3 c = search needs
+same-length-3 c = c .before .before .before .before .before .before .before .before .close-over .kept .1 .0
 
 same-length-4 : tie.Need-same-length-4
-same-length-4 c = search needs
+same-length-4 c = c .before .before .before .before .before .before .before .before .close-over .kept .1 .1 .0
 
 same-length-5 : tie.Need-same-length-5
-same-length-5 c = search needs
+same-length-5 c = c .before .before .before .before .before .before .before .before .close-over .kept .1 .1 .1 .0
 
 same-length-6 : tie.Need-same-length-6
-same-length-6 c = search needs
+same-length-6 c = c .before .before .before .before .before .before .before .before .close-over .kept .1 .1 .1 .1 .0
 
 returns-4 : tie.Need-returns-4
 returns-4 c =

@@ -10,8 +10,7 @@ use denote.Ref.{now}
 use Rattle.laws.proofs.Rooms.{laid-read}
 use Rattle.masks.specs.Masks.{rowWords}
 use Rattle.layerstate.specs.State.{mostLayer, keptIn}
-use Rattle.layerstate.proofs.Kept.{length-kept}
-use Rattle.layerparts.proofs.Most.{layer-most}
+use Rattle.layerstate.proofs.Kept.{layer-most, length-kept}
 use Rattle.layers.specs.Outcome.{closingMeasured}
 use Rattle.layers.proofs.Frames.{sides-fit, words-fit, given-of, last-handed}
 use Rattle.layers.proofs.close_over.Statement.{statement}
@@ -114,21 +113,25 @@ hand-last-requires c κs =
       (omega (arith, framed .below, framed .nz, s .pre .1 .0 .least-z), s .pre .0),
     )
 
+-- the call of `hand_last`, from the end
+abbrev handed-out : tie.After-slice-known8 → tie.After-hand-last
+handed-out c = c .before .before .before .before .before .before .before .before
+
 same-length : tie.Need-same-length
-same-length c = search needs
+same-length c = handed-out c .hand-last .kept .1 .1 .1 .1 .1 .0
 
 same-length-2 : tie.Need-same-length-2
-same-length-2 c = search needs
+same-length-2 c = handed-out c .hand-last .kept .1 .1 .1 .1 .1 .1 .0
 
 same-length-3 : tie.Need-same-length-3
-same-length-3 c = search needs
+same-length-3 c = handed-out c .hand-last .kept .1 .1 .1 .1 .1 .1 .1 .0
 
 same-length-4 : tie.Need-same-length-4
-same-length-4 c = search needs
+same-length-4 c = handed-out c .hand-last .kept .1 .1 .1 .1 .1 .1 .1 .1 .0
 
 returns : tie.Need-returns
 returns c =
-    let o = c .before .before .before .before .before .before .before .before in
+    let o = handed-out c in
     let q = o .before .before .before .before .before .before .before .before .before .before .before .before in
     let f = frame-of q in
     let s = begun f in

@@ -1,5 +1,5 @@
 -- `layers::next` meets its contract: the refusals in their order, a first layer, and a layer over another. Assumes nothing.
-use mathlib.Core.Path.{_≡_, ap, sym, _∙_}
+use mathlib.Core.Path.{_≡_, refl, ap, sym, _∙_}
 use mathlib.Core.List.{List}
 use mathlib.Core.Bool.{true, false, not, _&&_, _||_}
 use Prim.Native.Nat.{ℕ, _*_, _≤_, _<_}
@@ -16,7 +16,7 @@ use Rattle.grid.specs.Work.{SidesFit}
 use Rattle.grid.proofs.Sides.{sides-within}
 use Rattle.layerstate.specs.State.{mostLayer, stateLength, stateIn}
 use Rattle.layerstate.specs.Heads.{headIn}
-use Rattle.layerparts.proofs.Most.{layer-most}
+use Rattle.layerstate.proofs.Kept.{layer-most}
 use Rattle.layers.specs.Outcome.{Rooms, layerHands, layerMeasured}
 use Rattle.layers.specs.Promise.{rooms, left}
 use Rattle.layers.proofs.Ways.{nothing-left, layer-length, layer-none, layer-amiss, layer-taken, first-measured}
@@ -107,7 +107,7 @@ nothing-requires-2 : tie.Need-nothing-requires-2
 nothing-requires-2 c κs = search needs
 
 same-length : tie.Need-same-length
-same-length c = search needs
+same-length c = refl
 
 returns-2 : tie.Need-returns-2
 returns-2 c =
@@ -123,7 +123,7 @@ nothing-requires-3 : tie.Need-nothing-requires-3
 nothing-requires-3 c κs = search needs
 
 same-length-2 : tie.Need-same-length-2
-same-length-2 c = search needs
+same-length-2 c = refl
 
 returns-3 : tie.Need-returns-3
 returns-3 c =
@@ -142,7 +142,7 @@ nothing-requires-4 : tie.Need-nothing-requires-4
 nothing-requires-4 c κs = search needs
 
 same-length-3 : tie.Need-same-length-3
-same-length-3 c = search needs
+same-length-3 c = c .before .before .before .take-first .kept .1 .1 .0
 
 returns-4 : tie.Need-returns-4
 returns-4 c =
@@ -167,19 +167,19 @@ take-over-requires c κs =
     (h .read-head .ensures, ((fit (e .before .before), grey-fits (e .before .before)), ((h .before .before .if1 .left, right e), (omega (arith, t .if4 .left), turn e .0))))
 
 same-length-4 : tie.Need-same-length-4
-same-length-4 c = search needs
+same-length-4 c = c .before .before .before .before .before .before .before .before .before .before .take-over .kept .1 .1 .0
 
 same-length-5 : tie.Need-same-length-5
-same-length-5 c = search needs
+same-length-5 c = c .before .before .before .before .before .before .before .before .before .before .take-over .kept .1 .1 .1 .0
 
 same-length-6 : tie.Need-same-length-6
-same-length-6 c = search needs
+same-length-6 c = c .before .before .before .before .before .before .before .before .before .before .take-over .kept .1 .1 .1 .1 .0
 
 same-length-7 : tie.Need-same-length-7
-same-length-7 c = search needs
+same-length-7 c = c .before .before .before .before .before .before .before .before .before .before .take-over .kept .1 .1 .1 .1 .1 .0
 
 same-length-8 : tie.Need-same-length-8
-same-length-8 c = search needs
+same-length-8 c = c .before .before .before .before .before .before .before .before .before .before .take-over .kept .1 .1 .1 .1 .1 .1 .0
 
 returns-5 : tie.Need-returns-5
 returns-5 c =

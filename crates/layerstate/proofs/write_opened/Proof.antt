@@ -1,7 +1,6 @@
 -- `layerstate::write_opened` meets its contract. Assumes nothing.
-use mathlib.Core.Path.{_≡_, refl, ap, sym, _∙_}
+use mathlib.Core.Path.{refl}
 use native.Mathlib.Omega.{arith}
-use lib.ListN.{length-set}
 use borrow.Author.Needs.{needs}
 use Rattle.layerstate.specs.State.{openedRoom}
 use Rattle.layerstate.proofs.write_opened.Statement.{statement}

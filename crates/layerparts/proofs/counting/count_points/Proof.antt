@@ -1,7 +1,7 @@
 -- `layerparts::counting::count_points` meets its contract. The invariant: the next stretch stands in the layer, or where the next layer begins, and the points on the edges before its own
 -- are counted. Each turn leaves a word less. Assumes nothing.
-use mathlib.Core.Path.{_≡_, refl, ap, subst, sym, _∙_}
-use Prim.Native.Nat.{_+_, _*_, _-_, _≤_, _<_}
+use mathlib.Core.Path.{_≡_, ap, subst, sym}
+use Prim.Native.Nat.{_+_, _*_, _-_, _≤_}
 use native.Mathlib.Omega.{arith}
 use lib.ListN.{length}
 use denote.Ref.{now}
