@@ -144,6 +144,7 @@ pub fn hand_triangles(sides: Sides, masks: &[u64], triangles: &mut [u32]) -> u32
     ensures counted { λ r. ⌜ r ≡ triangleCount sides (now (masks .entry)) ⌝ }
     ensures laid { λ r. ⌜ now (triangles .exit) ≡ laid (flat (layerTriangles (sizeOf sides) (wordsAbove sides (now (masks .entry))) (sides .below))) (now (triangles .entry)) ⌝ }
 {
+    let z = sides.below;
     let table = cube::rows();
     let counts = cube::counts();
     let offsets = triangles::edge_offsets(sides.nx, sides.ny);
@@ -156,7 +157,7 @@ pub fn hand_triangles(sides: Sides, masks: &[u64], triangles: &mut [u32]) -> u32
         &numbers,
         triangles,
         sides,
-        sides.below,
+        z,
         0,
     );
     (end / 3) as u32

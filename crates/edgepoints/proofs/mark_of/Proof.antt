@@ -1,5 +1,5 @@
 -- `edgepoints::mark_of` meets its contract: the first test that passes, or none of the three. Assumes nothing.
-use mathlib.Core.Path.{_≡_}
+use mathlib.Core.Path.{_≡_, sym, _∙_}
 use mathlib.Core.Bool.{_&&_, _||_}
 use Prim.Native.Nat.{_/_, _%_}
 use lib.Dec.{eqb}
@@ -38,6 +38,12 @@ returns-2 c =
 is-outer-requires-3 : tie.Need-is-outer-requires-3
 is-outer-requires-3 c κs = search needs
 
+-- the test across z, of the sample's own layer
+z-tested : (c : tie.After-is-outer3)
+    → let a = c .before .before .before .before .before .args in
+    (eqb (a .d / 4 % 2) 0 && isEnd (a .at .z) (a .sides .nz)) ≡ c .is-outer3 .result
+z-tested c = sym (c .is-outer3 .ensures)
+
 returns-3 : tie.Need-returns-3
 returns-3 c =
     let s = c .before .before .before .before .before .before in
@@ -47,8 +53,7 @@ returns-3 c =
       c .before .before .before .before .if1 .left,
       ← (c .before .before .before .is-outer2 .ensures),
       c .before .before .if2 .left,
-      ← (c .before .is-outer3 .ensures),
-      c .if3 .taken,
+      z-tested (c .before) ∙ c .if3 .taken,
     )
 
 returns-4 : tie.Need-returns-4
@@ -60,8 +65,7 @@ returns-4 c =
       c .before .before .before .before .if1 .left,
       ← (c .before .before .before .is-outer2 .ensures),
       c .before .before .if2 .left,
-      ← (c .before .is-outer3 .ensures),
-      c .if3 .left,
+      z-tested (c .before) ∙ c .if3 .left,
     )
 
 pub mark-of-spec : {M : Type 1} → statement M
