@@ -20,22 +20,26 @@ use Rattle.layerparts.specs.Layer.{layerThrough, lastLayer}
 use Rattle.layerparts.specs.Parts.{Framed}
 use Rattle.layers.specs.Outcome.{layerHands, closingHands}
 
+-- the words of two layers of the largest grid
+abbrev pairWords : ℕ
+pairWords = rowWords mostSide * (mostSide * 2)
+
 module _ (head : Head) (first : ℕ) (sides : Sides) (framed : Framed head first sides) where
   pub sides-fit : SidesFit (head .nx) (head .ny) (head .nz) → SidesFit (sides .nx) (sides .ny) (sides .nz)
   sides-fit fit = rw (framed .nx, framed .ny, framed .nz) fit
 
-  -- a row of the longest side is one word, so that the words of two layers have room
-  pub words-fit : SidesFit (head .nx) (head .ny) (head .nz) → (layers : ℕ) → layers ≤ 2 → rowWords (sides .nx) * (sides .ny * layers) ≤ 2 * mostSide
+  -- two layers have room for the words of their rows
+  pub words-fit : SidesFit (head .nx) (head .ny) (head .nz) → (layers : ℕ) → layers ≤ 2 → rowWords (sides .nx) * (sides .ny * layers) ≤ pairWords
   words-fit fit layers few =
       let most = sides-fit fit in
       omega (
         arith,
-        mul-le-mul {n₁ = rowWords (sides .nx)} {m₁ = sides .ny * layers} {n₂ = 1} {m₂ = mostSide * 2} (omega (arith, most .most-x))
+        mul-le-mul {n₁ = rowWords (sides .nx)} {m₁ = sides .ny * layers} {n₂ = rowWords mostSide} {m₂ = mostSide * 2} (omega (arith, most .most-x))
             (mul-le-mul {n₁ = sides .ny} {m₁ = layers} {n₂ = mostSide} {m₂ = 2} (most .most-y) few),
       )
 
   pub given-of : SidesFit (head .nx) (head .ny) (head .nz) → (grey : ℕ) (samples masks : List ℕ) (layers rows : ℕ) → layers ≤ 2 → 1 ≤ layers → (first + 1 < head .nz → layers ≡ 2)
-      → rows ≡ sides .ny * layers → length samples ≡ sides .nx * rows → length masks ≡ 2 * mostSide → Masked (sides .nx) rows grey samples masks → Given sides (sides .below) grey samples masks
+      → rows ≡ sides .ny * layers → length samples ≡ sides .nx * rows → length masks ≡ pairWords → Masked (sides .nx) rows grey samples masks → Given sides (sides .below) grey samples masks
   given-of fit grey samples masks layers rows few some over are long words masked =
       let fits = sides-fit fit in
       let told = subst (λ rows. Masked (sides .nx) rows grey samples masks) are masked in

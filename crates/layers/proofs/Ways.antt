@@ -19,7 +19,8 @@ use Rattle.layerstate.specs.Heads.{headIn}
 use Rattle.layerparts.specs.Layer.{Handed}
 use Rattle.layerparts.specs.Parts.{tooMany, refusalFor}
 use Rattle.layerparts.proofs.Most.{not-refused}
-use Rattle.layers.specs.Outcome.{Rooms, Outcome, opened, firstTaken, pointRoom, triangleRoom, refused, granted, layerHands, layerMeasured, closingHands, closingMeasured, withState, layered, closed}
+use Rattle.layers.specs.Outcome.{Rooms, Outcome, opened, pointRoom, triangleRoom, refused, granted, layerHands, layerMeasured, closingHands, closingMeasured, withState, layered, closed}
+use Rattle.layers.specs.First.{firstTaken}
 use Rattle.layers.specs.Promise.{rooms, openLeft, left}
 
 -- an opening

@@ -24,13 +24,6 @@ opened nx ny nz grey room =
     cond (not (sidesFit nx ny nz)) (record { number = 1; state = room })
     (cond (not (eqb (length room) stateLength)) (record { number = 3; state = room }) (record { number = 0; state = openedRoom nx ny nz grey }))
 
--- a first layer, which hands out nothing: 4 and 5 for the totals of the state
-unfoldable pub firstTaken : List ℕ → List ℕ → Opened
-firstTaken layer room =
-    let s = stateIn room in
-    cond (ltb mostPoints (s .points)) (record { number = 4; state = room })
-    (cond (ltb mostTriangles (s .triangles)) (record { number = 5; state = room }) (record { number = 0; state = layeredRoom layer 0 0 room }))
-
 -- the lent result rooms; a closing lends none for triangles
 pub record Rooms : Type 0 where
   pub points : List ℕ
@@ -45,6 +38,13 @@ pub record Outcome : Type 0 where
   pub triangleCount : ℕ
   pub rooms : Rooms
   pub state : List ℕ
+
+-- the numbers for a layer of wrong length or one too many, and for closing early or a second time
+abbrev pub layerAmiss : ℕ
+layerAmiss = 17
+
+abbrev pub closedEarly : ℕ
+closedEarly = 18
 
 -- What a layer hands out. The volume is the kept layer and the new one in their places z and z + 1, with zeros below; the first layer hands out nothing.
 unfoldable pub layerHands : State → ℕ → List ℕ → Handed
@@ -109,11 +109,11 @@ module _ (r : Rooms) (room : List ℕ) where
   layered layer =
       let s = stateIn room in
       withState
-      (cond (not (eqb (length layer) (layerSize (s .sides))) || (leb (s .sides .nz) (s .taken) || not (eqb (s .closed) 0))) (refused 17)
+      (cond (not (eqb (length layer) (layerSize (s .sides))) || (leb (s .sides .nz) (s .taken) || not (eqb (s .closed) 0))) (refused layerAmiss)
       (layerMeasured layer (layerHands s (s .taken) layer)))
 
   -- a closing: 18 for one too early and for a closed run
   unfoldable pub closed : Outcome
   closed =
       let s = stateIn room in
-      withState (cond (ltb (s .taken) (s .sides .nz) || not (eqb (s .closed) 0)) (refused 18) (closingMeasured (closingHands s)))
+      withState (cond (ltb (s .taken) (s .sides .nz) || not (eqb (s .closed) 0)) (refused closedEarly) (closingMeasured (closingHands s)))

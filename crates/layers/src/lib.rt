@@ -10,7 +10,8 @@ ghost use Rattle.pointplaces.specs.Places.{Given};
 ghost use Rattle.layerstate.specs.State.{mostLayer, stateLength, stateIn};
 ghost use Rattle.layerstate.specs.Heads.{headIn};
 ghost use Rattle.layerparts.specs.Layer.{layerThrough, lastLayer};
-ghost use Rattle.layers.specs.Outcome.{firstTaken, layerHands, layerMeasured, closingHands, closingMeasured};
+ghost use Rattle.layers.specs.Outcome.{layerHands, layerMeasured, closingHands, closingMeasured};
+ghost use Rattle.layers.specs.First.{firstTaken};
 ghost use Rattle.layers.specs.Promise.{rooms, openLeft, left, Opens, Layers, Closes};
 use grid::limits::MOST_POINTS;
 use grid::limits::MOST_SIDE;
@@ -18,12 +19,18 @@ use grid::limits::MOST_TRIANGLES;
 use layerstate::Head;
 use layerstate::MOST_LAYER;
 use layerstate::STATE_LENGTH;
+use masks::MOST_WORDS;
 use rows::Sides;
+
+// The numbers for a layer of wrong length or one too many, and for closing early or a second time.
+const LAYER_AMISS: u32 = 17;
+
+const CLOSED_EARLY: u32 = 18;
 
 // The samples of two layers, and the words of their rows.
 const PAIR_SAMPLES: usize = 2 * MOST_LAYER;
 
-const PAIR_WORDS: usize = 2 * MOST_SIDE as usize;
+const PAIR_WORDS: usize = 2 * (MOST_WORDS / MOST_SIDE as usize);
 
 // Number 0 and the two counts if granted, else the refusal's number and zero counts.
 pub struct Answered {
@@ -199,7 +206,7 @@ pub fn next(
         return nothing(1);
     }
     if layerstate::is_amiss(head, layer.len()) {
-        return nothing(17);
+        return nothing(LAYER_AMISS);
     }
     if head.taken == 0 {
         return nothing(take_first(head, layer, state));
@@ -294,7 +301,7 @@ pub fn close(state: &mut [u32], points: &mut [u32], edges: &mut [u32], marks: &m
         return not_closed(1);
     }
     if layerstate::is_early(head) {
-        return not_closed(18);
+        return not_closed(CLOSED_EARLY);
     }
     close_over(head, state, points, edges, marks)
 }
