@@ -30,7 +30,7 @@ pub record Framed (head : Head) (first : ℕ) (sides : Sides) : Type 0 where
   pub last : AllSet (lastSamples (sides .nx)) (sides .last)
   pub below : sides .below ≡ first
 
--- there is room for whatever a layer can have: three points a sample, five triangles a cube
+-- there is room for whatever a layer can have: three points a sample, and five triangles a cube, of which there are fewer than samples
 pub record SurelyFits (head : Head) (sides : Sides) (room triangleRoom : ℕ) : Type 0 where
   pub points : tooMany mostPoints (head .points) room (3 * (sides .nx * sides .ny)) ≡ false
   pub triangles : tooMany mostTriangles (head .triangles) triangleRoom (mostCaseTriangles * (sides .nx * sides .ny)) ≡ false

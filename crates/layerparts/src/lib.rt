@@ -68,7 +68,7 @@ pub fn exceeds(so_far: u32, count: u32, most: u32, room: usize) -> bool
     room < count as usize
 }
 
-// Is there room for whatever a layer can have: three points a sample, five triangles a cube?
+// Is there room for whatever a layer can have: three points a sample, and five triangles a cube, of which there are fewer than samples?
 fn fits_surely(head: Head, sides: Sides, room: usize, triangle_room: usize) -> bool
     requires { ⌜ SidesFit (sides .nx) (sides .ny) (sides .nz) ⌝ }
     ensures { λ r. ⌜ (r ≡ true → SurelyFits head sides room «triangle_room») ⌝ }

@@ -1,8 +1,8 @@
 -- What a run has left and handed out depends on sides, grey value and the layers taken, and on nothing else.
-use mathlib.Core.Path.{_≡_, ap, sym, subst, _∙_}
-use mathlib.Core.List.{List}
+use mathlib.Core.Path.{_≡_, refl, ap, sym, subst, _∙_}
+use mathlib.Core.List.{List, [], _∷_}
 use mathlib.Core.Bool.{Bool}
-use Prim.Native.Nat.{ℕ, _*_}
+use Prim.Native.Nat.{ℕ, zero, suc, _*_}
 use lib.ListN.{length, take}
 use Rattle.laws.proofs.Sides.{length-corners}
 use Rattle.grid.specs.Work.{size}
@@ -10,7 +10,7 @@ use Rattle.layerstate.specs.State.{stateIn}
 use Rattle.layerparts.specs.Layer.{firstSample}
 use Rattle.layers.specs.Outcome.{Rooms, Outcome, refused, layered, closed}
 use Rattle.layers.specs.Promise.{Layers, Closes}
-use Rattle.layerruns.specs.Run.{Received, Run}
+use Rattle.layerruns.specs.Run.{Received, Run, Call, answer, answers}
 use Rattle.layerruns.specs.SoFar.{received, soFar, stateAfter}
 use Rattle.layerruns.proofs.Granted.{layer-keeps, closing-keeps}
 use Rattle.layerruns.proofs.RunState.{run-stood}
@@ -66,3 +66,13 @@ pub same-so-far : (nx ny nz grey taken : ℕ) (one two : List ℕ) (over : Bool)
     → Run nx ny nz grey taken (take (firstSample (size nx ny nz) taken) two) over other-state other-got → (state ≡ other-state) × (got ≡ other-got)
 same-so-far nx ny nz grey taken one two over {state} {other-state} {got} {other-got} alike run other =
     same-layers run (subst (λ samples. Run nx ny nz grey taken samples over other-state other-got) (sym alike) other)
+
+-- Calls that are the same so far, layers and rooms, are answered alike so far, refused ones among them.
+answers-so-far : (many : ℕ) (state : List ℕ) (calls : List Call) → take many (answers state calls) ≡ answers state (take many calls)
+unfolding answers
+answers-so-far zero state calls = refl
+answers-so-far (suc many) state [] = refl
+answers-so-far (suc many) state (c ∷ calls) = ap (λ os. answer state c ∷ os) (answers-so-far many (answer state c .state) calls)
+
+pub same-answers : (many : ℕ) (state : List ℕ) (one two : List Call) → take many one ≡ take many two → take many (answers state one) ≡ take many (answers state two)
+same-answers many state one two alike = answers-so-far many state one ∙ ap (answers state) alike ∙ sym (answers-so-far many state two)

@@ -1,11 +1,11 @@
 -- Runs: an opening, then layers and at last a closing, in which each call gets the state of the last granted one. Refused calls may be strewn in.
 use mathlib.Core.Path.{_≡_}
-use mathlib.Core.List.{List, [], _++_}
+use mathlib.Core.List.{List, [], _∷_, _++_}
 use mathlib.Core.Bool.{Bool, true, false}
 use Prim.Native.Nat.{ℕ, _+_, _*_, _≤_}
 use lib.ListN.{getD, take}
 use Rattle.grid.specs.Limits.{mostNumber}
-use Rattle.layers.specs.Outcome.{Opened, Rooms, Outcome}
+use Rattle.layers.specs.Outcome.{Opened, Rooms, Outcome, layered, closed}
 use Rattle.layers.specs.Promise.{Opens, Layers, Closes}
 
 -- what was handed out, each in order: the points' places, grid edges and marks, and three corners a triangle, each by its grid edge
@@ -46,3 +46,17 @@ pub data Run (nx ny nz grey : ℕ) : ℕ → List ℕ → Bool → List ℕ → 
       (after : Outcome) → Layers new before state after → (after .number ≡ 0 → ⊥) → Run nx ny nz grey taken samples over (after .state) got
   closing-refused : {taken : ℕ} {samples : List ℕ} {over : Bool} {state : List ℕ} {got : Received} → Run nx ny nz grey taken samples over state got → (before : Rooms) (after : Outcome)
       → Closes before state after → (after .number ≡ 0 → ⊥) → Run nx ny nz grey taken samples over (after .state) got
+
+-- a call after the opening, with its layer and its rooms
+pub data Call : Type 0 where
+  next : List ℕ → Rooms → Call
+  close : Rooms → Call
+
+abbrev pub answer : List ℕ → Call → Outcome
+answer state (next new r) = layered r state new
+answer state (close r) = closed r state
+
+-- what calls answer one after the other, each on the state that the one before it left
+unfoldable pub answers : List ℕ → List Call → List Outcome
+answers state [] = []
+answers state (c ∷ cs) = answer state c ∷ answers (answer state c .state) cs

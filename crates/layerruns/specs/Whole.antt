@@ -40,6 +40,6 @@ leaves n grey samples got r =
           };
     }
 
--- rooms that hold whatever one call can hand out: three points a sample, five triangles a cube
+-- rooms that hold whatever one call can hand out: three points a sample, and five triangles a cube, of which there are fewer than samples
 abbrev pub HoldsLayer : Size → LayerRooms → Type 0
 HoldsLayer n r = (3 * layerSize n ≤ pointRoom r) × (mostCaseTriangles * layerSize n ≤ triangleRoom r)
