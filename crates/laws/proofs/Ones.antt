@@ -1,24 +1,19 @@
 -- The set bits of a word, counted.
-use mathlib.Core.Path.{_≡_, refl, ap}
+use mathlib.Core.Path.{_≡_, refl, ap, sym}
 use Prim.Native.Nat.{ℕ, zero, suc, _+_, _/_, _%_, _^_, _<_}
-use native.Mathlib.Nat.{mod-lt, pow-suc}
+use native.Mathlib.Nat.{pow-suc}
 use native.Mathlib.Omega.{arith}
 use lib.Count.{ones, onesIn, ones-step}
-use lib.Dec.{eqb}
 use Rattle.laws.specs.Range.{one-if, sumTo, countTo}
 use Rattle.laws.specs.Bits.{bit}
 use Rattle.laws.proofs.Ranges.{sum-cong}
+use Rattle.laws.proofs.Binary.{number-back}
 use Rattle.laws.proofs.Box.{sum-shift}
 use Rattle.laws.proofs.Words.{bit-half}
 
 lowest : (n : ℕ) → n % 2 ≡ one-if (bit n 0)
 unfolding bit
-lowest n = digit (n % 2) (mod-lt n (omega arith))
-  where
-    digit : (d : ℕ) → d < 2 → d ≡ one-if (eqb d 1)
-    digit zero l = refl
-    digit (suc zero) l = refl
-    digit (suc (suc d)) l = absurd (omega arith)
+lowest n = sym (number-back (n % 2) (omega arith))
 
 pub ones-bits : (width n : ℕ) → n < 2 ^ width → ones n ≡ countTo width (bit n)
 unfolding countTo sumTo

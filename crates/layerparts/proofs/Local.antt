@@ -3,7 +3,7 @@ use mathlib.Core.Path.{_≡_, refl, ap, ap₂, _∙_}
 use mathlib.Core.List.{List, flatMap}
 use mathlib.Core.Bool.{Bool, true, false, _&&_, xor}
 use Prim.Native.Nat.{ℕ, zero, suc, _+_, _*_, _-_, _/_, _%_, _^_, _<_, _≤_}
-use native.Mathlib.Nat.{mul-add, mul-assoc, one-le-mul, le-mul-of-pos-right}
+use native.Mathlib.Nat.{mul-add, mul-assoc, mul-le-mul-left, one-le-mul, le-mul-of-pos-right}
 use native.Mathlib.Omega.{arith}
 use lib.Dec.{leb}
 use lib.ListN.{getD}
@@ -28,9 +28,7 @@ pub layers-on : (n : Size) (z k : ℕ) → firstSample n (z + k) ≡ firstSample
 layers-on n z k = rw (mul-add (n .ny) z k, mul-add (n .nx) (n .ny * z) (n .ny * k)) (omega (arith, mul-assoc (n .nx) (n .ny) k))
 
 pub layers-rise : (n : Size) (z k : ℕ) → z ≤ k → firstSample n z ≤ firstSample n k
-layers-rise n z k h =
-    let up : k ≡ z + (k - z) = omega arith in
-    omega (arith, ap (firstSample n) up, layers-on n z (k - z))
+layers-rise n z k h = mul-le-mul-left (n .nx) (mul-le-mul-left (n .ny) h)
 
 module _ (n : Size) (px : 0 < n .nx) (py : 0 < n .ny) (z : ℕ) where
   -- the next sample along an axis is a layer further on at most

@@ -1,7 +1,7 @@
 -- What the parts of a call rely on, and what they leave. The lent layers are those from `below` on, of which the first is handed out.
 use mathlib.Core.Path.{_≡_}
 use mathlib.Core.List.{List, map, flatMap}
-use mathlib.Core.Bool.{Bool, false, cond, _||_}
+use mathlib.Core.Bool.{Bool, cond, not, _&&_, _||_}
 use Prim.Native.Nat.{ℕ, _+_, _*_}
 use lib.Dec.{ltb}
 use lib.ListN.{length}
@@ -30,10 +30,10 @@ pub record Framed (head : Head) (first : ℕ) (sides : Sides) : Type 0 where
   pub last : AllSet (lastSamples (sides .nx)) (sides .last)
   pub below : sides .below ≡ first
 
--- there is room for whatever a layer can have: three points a sample, and five triangles a cube, of which there are fewer than samples
-pub record SurelyFits (head : Head) (sides : Sides) (room triangleRoom : ℕ) : Type 0 where
-  pub points : tooMany mostPoints (head .points) room (3 * (sides .nx * sides .ny)) ≡ false
-  pub triangles : tooMany mostTriangles (head .triangles) triangleRoom (mostCaseTriangles * (sides .nx * sides .ny)) ≡ false
+-- is there room for whatever a layer can have: three points a sample, and five triangles a cube, of which there are fewer than samples
+abbrev pub surelyFits : Head → Sides → ℕ → ℕ → Bool
+surelyFits head sides room triangleRoom =
+    not (tooMany mostPoints (head .points) room (3 * (sides .nx * sides .ny))) && not (tooMany mostTriangles (head .triangles) triangleRoom (mostCaseTriangles * (sides .nx * sides .ny)))
 
 -- the crossed edges of the first lent layer, by the words, and how many triangles the cubes over it have
 unfoldable pub wordEdges : Sides → List ℕ → List ℕ

@@ -1,7 +1,6 @@
 // The parts of a layer's call: two layers side by side, what they have counted, and written to the lent rooms.
 ghost use mathlib.Core.Path.{_≡_};
 ghost use mathlib.Core.List.{_++_};
-ghost use mathlib.Core.Bool.{true};
 ghost use Prim.Native.Nat.{_+_, _*_, _≤_, _<_};
 ghost use lib.ListN.{length};
 ghost use Rattle.laws.specs.Room.{laid};
@@ -12,7 +11,7 @@ ghost use Rattle.edgepoints.specs.EdgePoint.{pointRooms, RoomsFor};
 ghost use Rattle.pointplaces.specs.Places.{Given};
 ghost use Rattle.layerstate.specs.State.{keptAt, keptIn};
 ghost use Rattle.layerparts.specs.Layer.{layerTriangles};
-ghost use Rattle.layerparts.specs.Parts.{tooMany, Framed, SurelyFits, wordEdges, triangleCount, refusalFor, lentEdges, pointsLaid};
+ghost use Rattle.layerparts.specs.Parts.{tooMany, Framed, surelyFits, wordEdges, triangleCount, refusalFor, lentEdges, pointsLaid};
 
 pub mod counting;
 
@@ -71,7 +70,7 @@ pub fn exceeds(so_far: u32, count: u32, most: u32, room: usize) -> bool
 // Is there room for whatever a layer can have: three points a sample, and five triangles a cube, of which there are fewer than samples?
 fn fits_surely(head: Head, sides: Sides, room: usize, triangle_room: usize) -> bool
     requires { ⌜ SidesFit (sides .nx) (sides .ny) (sides .nz) ⌝ }
-    ensures { λ r. ⌜ (r ≡ true → SurelyFits head sides room «triangle_room») ⌝ }
+    ensures { λ r. ⌜ r ≡ surelyFits head sides room «triangle_room» ⌝ }
 {
     let each = (sides.nx * sides.ny) as u32;
     if exceeds(head.points, 3 * each, MOST_POINTS, room) {

@@ -8,7 +8,7 @@ use native.Mathlib.Numerals.{add-one}
 use native.Mathlib.Omega.{arith}
 use lib.Dec.{leb}
 use lib.ListN.{length, getD, take, drop, length-append, length-take, length-drop, length-replicate, take-append-drop, List·getD-eq-default}
-use lib.Seq.{length-take-le, length-sets, take-add, take-all, getD-take, getD-drop}
+use lib.Seq.{length-take-le, length-sets, take-add, take-all, getD-take}
 use borrow.Author.Tests.{le-leb, eq-eqb}
 use Rattle.laws.specs.Range.{joinTo}
 use Rattle.laws.proofs.Ranges.{length-join, sum-rises}
@@ -32,7 +32,7 @@ use Rattle.layerruns.specs.Whole.{HoldsLayer}
 use Rattle.layerruns.proofs.Granted.{layer-grants, closing-grants}
 use Rattle.layerruns.proofs.Standing.{over-read}
 use Rattle.layerruns.proofs.Volumes.{first-same}
-use Rattle.layerruns.proofs.Steps.{hands, sides-is, grey-is, taken-is, points-is, triangles-is, first-handing, next-handing, grown, closing-handing, whole-grown}
+use Rattle.layerruns.proofs.Steps.{samples-dropped, hands, sides-is, grey-is, taken-is, points-is, triangles-is, first-handing, next-handing, grown, closing-handing, whole-grown}
 use Rattle.layerruns.proofs.PutTogether.{all-edges, all-triangles, firsts, all-handed, within-bounds}
 use Rattle.layerruns.proofs.RunState.{run-stood}
 
@@ -202,9 +202,6 @@ module _ (nx ny nz grey : ℕ) (volume : List ℕ) where
         go (yes l) = rw (getD-take many xs i 0 l) (p i)
         go (no l) = rw (List·getD-eq-default (take many xs) 0 {n = i} (omega (arith, length-take many xs))) (omega arith)
 
-    samples-past : (many : ℕ) (xs : List ℕ) → AreSamples xs → AreSamples (drop many xs)
-    samples-past many xs p i = rw (getD-drop many xs i 0) (p (many + i))
-
     module _ (room : List ℕ) (long : length room ≡ stateLength) (sided : sidesFit nx ny nz ≡ true) (rooms : ℕ → Rooms) (hold : (z : ℕ) → HoldsLayer n (rooms z)) where
       opens : opened nx ny nz grey room .number ≡ 0
       unfolding opened
@@ -222,7 +219,7 @@ module _ (nx ny nz grey : ℕ) (volume : List ℕ) where
           let r = rooms taken in
           let after = layered r (so .0) (layerOf taken) in
           let granted = layer-goes-on (so .2) (omega arith) r (hold taken) in
-          let run = layer (so .2) (layerOf taken) (samples-cut (layerSize n) _ (samples-past (firstSample n taken) volume small)) r after refl granted in (
+          let run = layer (so .2) (layerOf taken) (samples-cut (layerSize n) _ (samples-dropped (firstSample n taken) volume small)) r after refl granted in (
             _,
             _,
             subst (λ k. Run nx ny nz grey k (before k) false (after .state) (joined (so .1) (handedBy after))) (add-one taken)

@@ -35,7 +35,7 @@ samples-joined xs ys p q i = go (decLt i (length xs))
         let at : i ≡ length xs + (i - length xs) = omega arith in
         rw (ap (λ k. getD (xs ++ ys) k 0) at ∙ getD-append-add xs ys (i - length xs) 0) (q (i - length xs))
 
-samples-dropped : (k : ℕ) (xs : List ℕ) → AreSamples xs → AreSamples (drop k xs)
+pub samples-dropped : (k : ℕ) (xs : List ℕ) → AreSamples xs → AreSamples (drop k xs)
 samples-dropped k xs p i = rw (getD-drop k xs i 0) (p (k + i))
 
 through-even : (n : Size) (grey : ℕ) (samples : List ℕ) (z : ℕ) → Even (layerThrough n grey samples z)

@@ -1,8 +1,7 @@
 -- `layerparts::fits_surely` meets its contract. Assumes nothing.
-use mathlib.Core.Path.{sym, _∙_}
-use mathlib.Core.Bool.{false≢true}
+use mathlib.Core.Path.{ap, sym, _∙_}
+use mathlib.Core.Bool.{not}
 use native.Mathlib.Omega.{arith}
-use borrow.Author.Tests.{not-true}
 use borrow.Author.Needs.{needs}
 use Rattle.layerstate.proofs.Kept.{layer-most}
 use Rattle.layerparts.proofs.fits_surely.Statement.{statement}
@@ -21,7 +20,7 @@ exceeds-requires : tie.Need-exceeds-requires
 exceeds-requires c κs = search needs
 
 returns : tie.Need-returns
-returns c = λ yes-true. absurd (false≢true yes-true)
+returns c = rw (sym (c .before .exceeds .ensures) ∙ c .if1 .taken)
 
 mul-exceeds-2 : tie.Need-mul-exceeds-2
 mul-exceeds-2 c = omega (arith, layer-most (c .before .before .before .pre))
@@ -30,11 +29,7 @@ exceeds-requires-2 : tie.Need-exceeds-requires-2
 exceeds-requires-2 c κs = search needs
 
 returns-2 : tie.Need-returns-2
-returns-2 c = λ yes-true.
-    record {
-      points = sym (c .before .before .exceeds .ensures) ∙ c .before .if1 .left;
-      triangles = sym (c .exceeds2 .ensures) ∙ not-true (c .exceeds2 .result) yes-true;
-    }
+returns-2 c = rw (sym (c .before .before .exceeds .ensures) ∙ c .before .if1 .left) (ap not (c .exceeds2 .ensures))
 
 pub fits-surely-spec : {M : Type 1} → statement M
 fits-surely-spec =

@@ -4,6 +4,8 @@ use native.Mathlib.Omega.{arith}
 use lib.ListN.{length}
 use denote.Ref.{now}
 use borrow.Author.Needs.{needs}
+use borrow.Author.Tests.{not-true}
+use Rattle.laws.proofs.Tests.{both}
 use Rattle.grid.specs.Limits.{mostPoints, mostTriangles}
 use Rattle.rows.specs.Rows.{sizeOf, wordsAbove}
 use Rattle.layerparts.specs.Parts.{tooMany, wordEdges, triangleCount}
@@ -19,9 +21,9 @@ returns : tie.Need-returns
 unfolding wordEdges triangleCount
 returns c =
     let a = c .before .before .before .args in
-    let sure = c .before .fits-surely .ensures (c .if1 .taken) in
-    refused-none (a .head) (a .room) (a .triangle-room) _ _ (fewer mostPoints _ _ _ _ (points-most (sizeOf (a .sides)) (wordsAbove (a .sides) (now (a .masks))) (a .sides .below)) (sure .points))
-    (fewer mostTriangles _ _ _ _ (triangles-most (sizeOf (a .sides)) (wordsAbove (a .sides) (now (a .masks))) (a .sides .below)) (sure .triangles))
+    let sure = both _ _ (sym (c .before .fits-surely .ensures) ∙ c .if1 .taken) in
+    refused-none (a .head) (a .room) (a .triangle-room) _ _ (fewer mostPoints _ _ _ _ (points-most (sizeOf (a .sides)) (wordsAbove (a .sides) (now (a .masks))) (a .sides .below)) (not-true _ (sure .0)))
+    (fewer mostTriangles _ _ _ _ (triangles-most (sizeOf (a .sides)) (wordsAbove (a .sides) (now (a .masks))) (a .sides .below)) (not-true _ (sure .1)))
 
 count-points-requires : tie.Need-count-points-requires
 count-points-requires c κs = let pre = c .before .before .before .pre in (pre .0, omega (arith, pre .1))
