@@ -4,10 +4,11 @@ ghost use mathlib.Core.List.{[], _∷_};
 ghost use mathlib.Core.Bool.{true, _&&_};
 ghost use Prim.Native.Nat.{_+_, _*_, _^_, _<_, _≤_};
 ghost use lib.Dec.{eqb};
+ghost use lib.ListN.{length, getD};
 ghost use Rattle.laws.specs.Range.{one-if};
 ghost use Rattle.grid.specs.Limits.{mostSide};
 ghost use Rattle.grid.specs.Grid.{axes, isEnd, someFace, onFaceFrom};
-ghost use Rattle.grid.specs.Work.{SidesFit};
+ghost use Rattle.grid.specs.Work.{SidesFit, lentSamples};
 ghost use Rattle.rows.specs.Rows.{sizeOf, gridSamples, nextNumber};
 ghost use Rattle.edgepoints.specs.EdgePoint.{mostOffset, pointRooms, Standing, RoomsFor, Placeable, placedFrom, withPlaced, stepOf, pointBy, pointFrom};
 use grid::limits::UNIT;
@@ -116,6 +117,18 @@ fn write_point(p: Point, n: usize, points: &mut [u32], edges: &mut [u32], marks:
     marks[n] = p.mark;
 }
 
+// A sample by its place among those lent.
+fn sample_at(kept: &[u32], samples: &[u16], place: usize) -> u16
+    requires { ⌜ place < length (lentSamples (now kept) (now samples)) ⌝ }
+    ensures { λ r. ⌜ r ≡ getD (lentSamples (now (kept .entry)) (now (samples .entry))) place 0 ⌝ }
+{
+    let many = kept.len();
+    if place < many {
+        return grid::sample_of(kept[place]) as u16;
+    }
+    samples[place - many]
+}
+
 // Writes the point of the edge that leaves a sample along an axis, if the edge is crossed, and answers the number after it.
 pub fn place_edge(
     cut: bool,
@@ -124,6 +137,7 @@ pub fn place_edge(
     grey: u16,
     at: Sample,
     n: usize,
+    kept: &[u32],
     samples: &[u16],
     points: &mut [u32],
     edges: &mut [u32],
@@ -131,10 +145,10 @@ pub fn place_edge(
 ) -> usize
     requires { ⌜ Standing sides at ⌝ }
     requires { ⌜ axis < 3 ⌝ }
-    requires { ⌜ (cut ≡ true → Placeable (sizeOf sides) (now samples) (at .place) axis n (pointRooms (now points) (now edges) (now marks))) ⌝ }
+    requires { ⌜ (cut ≡ true → Placeable (sizeOf sides) (lentSamples (now kept) (now samples)) (at .place) axis n (pointRooms (now points) (now edges) (now marks))) ⌝ }
     ensures { λ r. ⌜ r ≡ nextNumber cut n ⌝ }
     ensures { λ r. ⌜ pointRooms (now (points .exit)) (now (edges .exit)) (now (marks .exit))
-        ≡ withPlaced cut n (pointFrom (sizeOf sides) grey (gridSamples sides (now (samples .entry))) (at .s) axis)
+        ≡ withPlaced cut n (pointFrom (sizeOf sides) grey (gridSamples sides (lentSamples (now (kept .entry)) (now (samples .entry)))) (at .s) axis)
         (pointRooms (now (points .entry)) (now (edges .entry)) (now (marks .entry))) ⌝ }
 {
     if !cut {
@@ -142,7 +156,9 @@ pub fn place_edge(
     }
     let here = at.place;
     let other = here + step_of(sides, axis);
-    let offset = grid::offset(samples[here], samples[other], grey);
+    let v0 = sample_at(kept, samples, here);
+    let v1 = sample_at(kept, samples, other);
+    let offset = grid::offset(v0, v1, grey);
     let p = point_on(sides, at, axis, offset);
     write_point(p, n, points, edges, marks);
     n + 1

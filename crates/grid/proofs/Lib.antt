@@ -9,3 +9,4 @@ pub mod Sound
 pub mod Named
 pub mod Empty
 pub mod Plain
+pub mod Lent

@@ -1,8 +1,8 @@
 -- What the extractor's parts rely on while it runs.
 use mathlib.Core.Path.{_≡_}
-use mathlib.Core.List.{List, [], _∷_}
+use mathlib.Core.List.{List, [], _∷_, _++_, map}
 use mathlib.Core.Bool.{Bool, true}
-use Prim.Native.Nat.{ℕ, _^_, _≤_, _<_}
+use Prim.Native.Nat.{ℕ, _%_, _^_, _≤_, _<_}
 use lib.ListN.{length, getD}
 use Rattle.grid.specs.Limits.{leastSide, mostSide}
 use Rattle.grid.specs.Grid.{Size, Kind, edgeCount, crossed}
@@ -24,6 +24,14 @@ pub record SidesFit (nx ny nz : ℕ) : Type 0 where
 pub record Numbered (k : Kind) (n : Size) (above : ℕ → Bool) (work : List ℕ) : Type 0 where
   pub whole : length work ≡ edgeCount k n
   pub ranks : (e : ℕ) → e < edgeCount k n → crossed k n above e ≡ true → getD work e 0 ≡ number k n above e
+
+-- a kept sample is read by the lowest 16 bits of its number
+abbrev pub sampleOf : ℕ → ℕ
+sampleOf number = number % 2 ^ 16
+
+-- the samples lent: first those that are kept, one a number, then those that come as they are
+abbrev pub lentSamples : List ℕ → List ℕ → List ℕ
+lentSamples kept samples = map sampleOf kept ++ samples
 
 -- what a grid edge is called: where names are lent the name at its number, else its number
 unfoldable pub nameOf : List ℕ → ℕ → ℕ

@@ -4,12 +4,17 @@ ghost use Prim.Native.Nat.{_<_};
 ghost use Rattle.grid.specs.Sides.{sideFits, sidesFit};
 ghost use Rattle.grid.specs.Grid.{isEnd};
 ghost use Rattle.grid.specs.Point.{apart, offset as offsetOf};
+ghost use Rattle.grid.specs.Work.{sampleOf};
 
 pub mod limits;
 
 use limits::LEAST_SIDE;
+use limits::MOST_NUMBER;
 use limits::MOST_SIDE;
 use limits::UNIT;
+
+// A sample is below this.
+const SAMPLES: u32 = MOST_NUMBER as u32 + 1;
 
 fn side_fits(side: u32) -> bool
     ensures { λ r. ⌜ r ≡ sideFits side ⌝ }
@@ -30,6 +35,13 @@ pub fn sides_fit(nx: u32, ny: u32, nz: u32) -> bool
         }
     }
     false
+}
+
+// A kept sample, which is the lowest 16 bits of its number.
+pub fn sample_of(number: u32) -> u32
+    ensures { λ r. ⌜ r ≡ sampleOf number ⌝ }
+{
+    number % SAMPLES
 }
 
 // How far apart two samples are.

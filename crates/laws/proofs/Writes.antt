@@ -5,7 +5,7 @@ use Prim.Native.Nat.{ℕ, zero, suc, _+_, _*_, _<_, _≤_}
 use native.Mathlib.Numerals.{add-one}
 use native.Mathlib.Nat.{add-zero, mul-add}
 use native.Mathlib.Omega.{arith}
-use lib.ListN.{length, getD, take, drop, set, length-set, length-map}
+use lib.ListN.{length, getD, take, drop, set, length-set, length-append, length-map}
 use lib.Seq.{sets, sets-eq, set-comm, drop-set-lt, take-suc, length-take-le, getD-set-same, getD-set-other}
 use Rattle.laws.specs.Room.{laid}
 use Rattle.laws.proofs.Ranges.{flat-append, length-flat}
@@ -23,6 +23,12 @@ module _ {A : Type 0} where
   sets-front room xs h =
       let e : 0 + length xs ≡ length xs = omega arith in
       sets-eq xs room 0 (omega arith) ∙ rw e
+
+  -- from the front on, and then behind that
+  pub laid-sets : (room xs ys : List A) (at : ℕ) → length xs ≡ at → at + length ys ≤ length room → sets (laid xs room) at ys ≡ laid (xs ++ ys) room
+  laid-sets room xs ys at e l =
+      let after : at ≡ 0 + length xs = omega (arith, e) in
+      rw (← (sets-front room xs (omega (arith, e))), after) (sets-append room 0 xs ys ∙ sets-front room (xs ++ ys) (omega (arith, length-append xs ys, e)))
 
   -- what stands before the run stays
   pub sets-before : (room : List A) (i : ℕ) (xs : List A) (k : ℕ) (d : A) → k < i → getD (sets room i xs) k d ≡ getD room k d

@@ -1,15 +1,13 @@
-// The parts of a layer's call: two layers side by side, what they have counted, and written to the lent rooms.
+// The parts of a layer's call: what two layers have, counted, and written to the lent rooms.
 ghost use mathlib.Core.Path.{_≡_};
-ghost use mathlib.Core.List.{_++_};
 ghost use Prim.Native.Nat.{_+_, _*_, _≤_, _<_};
 ghost use lib.ListN.{length};
 ghost use Rattle.laws.specs.Room.{laid};
 ghost use Rattle.laws.specs.Mesh.{flat};
-ghost use Rattle.grid.specs.Work.{SidesFit};
+ghost use Rattle.grid.specs.Work.{SidesFit, lentSamples};
 ghost use Rattle.rows.specs.Rows.{Ready, sizeOf, wordsAbove};
 ghost use Rattle.edgepoints.specs.EdgePoint.{pointRooms, RoomsFor};
 ghost use Rattle.pointplaces.specs.Places.{Given};
-ghost use Rattle.layerstate.specs.State.{keptAt, keptIn};
 ghost use Rattle.layerparts.specs.Layer.{layerTriangles};
 ghost use Rattle.layerparts.specs.Parts.{tooMany, Framed, surelyFits, wordEdges, triangleCount, refusalFor, lentEdges, pointsLaid};
 
@@ -24,19 +22,6 @@ use rows::Sides;
 
 // Triangles of a cube at most.
 const CASE_TRIANGLES: u32 = MOST_CASE_TRIANGLES as u32;
-
-// The kept layer and the new one side by side, in the front of a room.
-pub fn hold(layer: &[u16], state: &[u32], each: usize, held: &mut [u16])
-    requires { ⌜ keptAt + each ≤ length (now state) ⌝ }
-    requires { ⌜ length (now layer) ≡ each ⌝ }
-    requires { ⌜ each + each ≤ length (now held) ⌝ }
-    ensures { λ _. ⌜ now (held .exit) ≡ laid (keptIn each (now (state .entry)) ++ now (layer .entry)) (now (held .entry)) ⌝ }
-{
-    layerstate::read_kept(state, each, held);
-    for i in 0..each {
-        held[each + i] = layer[i];
-    }
-}
 
 // The sides of a state's grid, of which the layers from `below` on are lent.
 pub fn frame(head: Head, below: usize) -> Sides
@@ -109,24 +94,26 @@ pub fn refusal(head: Head, sides: Sides, masks: &[u64], room: usize, triangle_ro
 pub fn hand_points(
     sides: Sides,
     grey: u16,
+    kept: &[u32],
     samples: &[u16],
     masks: &[u64],
     points: &mut [u32],
     edges: &mut [u32],
     marks: &mut [u8],
 ) -> u32
-    requires { ⌜ Given sides (sides .below) grey (now samples) (now masks) ⌝ }
+    requires { ⌜ Given sides (sides .below) grey (lentSamples (now kept) (now samples)) (now masks) ⌝ }
     requires { ⌜ sides .below < sides .nz ⌝ }
     requires { ⌜ RoomsFor (length (wordEdges sides (now masks))) (pointRooms (now points) (now edges) (now marks)) ⌝ }
-    ensures counted { λ r. ⌜ r ≡ length (lentEdges sides grey (now (samples .entry))) ⌝ }
+    ensures counted { λ r. ⌜ r ≡ length (lentEdges sides grey (lentSamples (now (kept .entry)) (now (samples .entry)))) ⌝ }
     ensures laid { λ r. ⌜ pointRooms (now (points .exit)) (now (edges .exit)) (now (marks .exit))
-        ≡ pointsLaid sides grey (now (samples .entry)) (pointRooms (now (points .entry)) (now (edges .entry)) (now (marks .entry))) ⌝ }
+        ≡ pointsLaid sides grey (lentSamples (now (kept .entry)) (now (samples .entry))) (pointRooms (now (points .entry)) (now (edges .entry)) (now (marks .entry))) ⌝ }
 {
     place_layer(
         sides,
         grey,
         sides.below,
         0,
+        kept,
         samples,
         masks,
         points,

@@ -11,7 +11,8 @@ use Rattle.laws.proofs.Writes.{sets-before, set-before}
 use Rattle.laws.proofs.Parts.{sets-over}
 use Rattle.grid.specs.Limits.{mostNumber}
 use Rattle.grid.specs.Grid.{Size}
-use Rattle.layerstate.specs.State.{mostLayer, layerSize, takenAt, closedAt, pointsAt, trianglesAt, keptAt, sampleOf, keptIn, stateIn, openedRoom, layeredRoom, closedRoom}
+use Rattle.grid.specs.Work.{sampleOf}
+use Rattle.layerstate.specs.State.{mostLayer, layerSize, takenAt, closedAt, pointsAt, trianglesAt, keptAt, keptIn, stateIn, openedRoom, layeredRoom, closedRoom}
 use Rattle.layerruns.specs.Run.{AreSamples}
 use Rattle.layerruns.specs.SoFar.{standing}
 

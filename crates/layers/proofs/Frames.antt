@@ -1,20 +1,20 @@
 -- The lent layers in the grid of a state: what the walks are given, and what is then handed out.
-use mathlib.Core.Path.{_≡_, ap, ap₂, sym, subst, _∙_}
-use mathlib.Core.List.{List, _++_}
+use mathlib.Core.Path.{_≡_, ap, sym, subst, _∙_}
+use mathlib.Core.List.{List, [], _++_, map, append-nil}
 use Prim.Native.Nat.{ℕ, suc, _+_, _*_, _-_, _≤_, _<_}
 use native.Mathlib.Nat.{mul-le-mul}
 use native.Mathlib.Omega.{arith}
-use lib.ListN.{length}
+use lib.ListN.{length, take, drop}
 use Rattle.grid.specs.Limits.{mostSide}
 use Rattle.grid.specs.Grid.{isAboveGrey}
-use Rattle.grid.specs.Work.{size, SidesFit}
+use Rattle.grid.specs.Work.{size, SidesFit, sampleOf, lentSamples}
 use Rattle.masks.specs.Masks.{rowWords, Masked}
 use Rattle.masks.proofs.Above.{told-agrees}
 use Rattle.rows.specs.declared.Sides.{Sides}
 use Rattle.rows.specs.Rows.{sizeOf, zerosBelow, gridSamples}
 use Rattle.pointplaces.specs.Places.{Given}
 use Rattle.layerstate.specs.declared.Head.{Head}
-use Rattle.layerstate.specs.State.{keptIn, stateIn}
+use Rattle.layerstate.specs.State.{keptAt, keptIn, stateIn}
 use Rattle.layerstate.specs.Heads.{headIn}
 use Rattle.layerparts.specs.Layer.{layerThrough, lastLayer}
 use Rattle.layerparts.specs.Parts.{Framed}
@@ -23,6 +23,21 @@ use Rattle.layers.specs.Outcome.{layerHands, closingHands}
 -- the words of two layers of the largest grid
 abbrev pairWords : ℕ
 pairWords = rowWords mostSide * (mostSide * 2)
+
+-- the kept layer is a part of the state's room, and is lent before the new one, or alone
+module _ (room : List ℕ) (each : ℕ) where
+  abbrev keptPart : List ℕ
+  keptPart = take (keptAt + each - keptAt) (drop keptAt room)
+
+  part-kept : map sampleOf keptPart ≡ keptIn each room
+  unfolding keptIn
+  part-kept = let long : keptAt + each - keptAt ≡ each = omega arith in ap (λ k. map sampleOf (take k (drop keptAt room))) long
+
+  pub pair-lent : (layer : List ℕ) → lentSamples keptPart layer ≡ keptIn each room ++ layer
+  pair-lent layer = ap (λ kept. kept ++ layer) part-kept
+
+  pub kept-lent : lentSamples keptPart [] ≡ keptIn each room
+  kept-lent = append-nil (map sampleOf keptPart) ∙ part-kept
 
 module _ (head : Head) (first : ℕ) (sides : Sides) (framed : Framed head first sides) where
   pub sides-fit : SidesFit (head .nx) (head .ny) (head .nz) → SidesFit (sides .nx) (sides .ny) (sides .nz)
@@ -60,7 +75,7 @@ module _ (head : Head) (first : ℕ) (sides : Sides) (framed : Framed head first
         masked = told;
       }
 
-  module _ (room : List ℕ) (is : head ≡ headIn room) (samples : List ℕ) where
+  module _ (room : List ℕ) (is : head ≡ headIn room) where
     is-x : sides .nx ≡ headIn room .nx
     is-x = framed .nx ∙ ap (λ h. h .nx) is
 
@@ -73,18 +88,16 @@ module _ (head : Head) (first : ℕ) (sides : Sides) (framed : Framed head first
     is-grey : head .grey ≡ headIn room .grey
     is-grey = ap (λ h. h .grey) is
 
-    pub layer-handed : (layer : List ℕ) → head .taken ≡ suc first → samples ≡ keptIn (sides .nx * sides .ny) room ++ layer
-        → layerThrough (sizeOf sides) (head .grey) (gridSamples sides samples) (sides .below) ≡ layerHands (stateIn room) (head .taken) layer
+    pub layer-handed : (layer : List ℕ) → head .taken ≡ suc first
+        → layerThrough (sizeOf sides) (head .grey) (gridSamples sides (keptIn (sides .nx * sides .ny) room ++ layer)) (sides .below) ≡ layerHands (stateIn room) (head .taken) layer
     unfolding layerHands stateIn
-    layer-handed layer taken held =
-        let pair : samples ≡ keptIn (headIn room .nx * headIn room .ny) room ++ layer = held ∙ ap₂ (λ x y. keptIn (x * y) room ++ layer) is-x is-y in
-        (λ i. layerThrough (size (is-x i) (is-y i) (is-z i)) (is-grey i) (zerosBelow (is-x i * is-y i) (framed .below i) (pair i)) (framed .below i))
+    layer-handed layer taken =
+        (λ i. layerThrough (size (is-x i) (is-y i) (is-z i)) (is-grey i) (zerosBelow (is-x i * is-y i) (framed .below i) (keptIn (is-x i * is-y i) room ++ layer)) (framed .below i))
         ∙ ap (λ t. layerHands (stateIn room) t layer) (sym taken)
 
-    pub last-handed : first ≡ headIn room .nz - 1 → samples ≡ keptIn (sides .nx * sides .ny) room
-        → lastLayer (sizeOf sides) (head .grey) (gridSamples sides samples) (sides .below) ≡ closingHands (stateIn room)
+    pub last-handed : first ≡ headIn room .nz - 1
+        → lastLayer (sizeOf sides) (head .grey) (gridSamples sides (keptIn (sides .nx * sides .ny) room)) (sides .below) ≡ closingHands (stateIn room)
     unfolding closingHands stateIn
-    last-handed last held =
-        let kept : samples ≡ keptIn (headIn room .nx * headIn room .ny) room = held ∙ ap₂ (λ x y. keptIn (x * y) room) is-x is-y in
+    last-handed last =
         let at : sides .below ≡ headIn room .nz - 1 = framed .below ∙ last in
-        λ i. lastLayer (size (is-x i) (is-y i) (is-z i)) (is-grey i) (zerosBelow (is-x i * is-y i) (at i) (kept i)) (at i)
+        λ i. lastLayer (size (is-x i) (is-y i) (is-z i)) (is-grey i) (zerosBelow (is-x i * is-y i) (at i) (keptIn (is-x i * is-y i) room)) (at i)

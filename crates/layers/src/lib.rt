@@ -1,13 +1,13 @@
 // Layers as they come off the scanner (document 02, request (v)): the extractor in three calls, an opening, one call a layer, and a closing, with two layers held and no more.
 ghost use mathlib.Core.Path.{_≡_};
-ghost use mathlib.Core.List.{[]};
+ghost use mathlib.Core.List.{[], _++_};
 ghost use Prim.Native.Nat.{_+_, _*_, _/_, _≤_, _<_, min};
 ghost use lib.ListN.{length};
 ghost use Rattle.grid.specs.Limits.{mostNumber, mostSide};
 ghost use Rattle.grid.specs.Work.{SidesFit};
 ghost use Rattle.rows.specs.Rows.{sizeOf, gridSamples};
 ghost use Rattle.pointplaces.specs.Places.{Given};
-ghost use Rattle.layerstate.specs.State.{mostLayer, stateLength, stateIn};
+ghost use Rattle.layerstate.specs.State.{mostLayer, stateLength, keptIn, stateIn};
 ghost use Rattle.layerstate.specs.Heads.{headIn};
 ghost use Rattle.layerparts.specs.Layer.{layerThrough, lastLayer};
 ghost use Rattle.layers.specs.Outcome.{layerHands, layerMeasured, closingHands, closingMeasured};
@@ -17,7 +17,7 @@ use grid::limits::MOST_POINTS;
 use grid::limits::MOST_SIDE;
 use grid::limits::MOST_TRIANGLES;
 use layerstate::Head;
-use layerstate::MOST_LAYER;
+use layerstate::KEPT_AT;
 use layerstate::STATE_LENGTH;
 use masks::MOST_WORDS;
 use rows::Sides;
@@ -27,9 +27,7 @@ const LAYER_AMISS: u32 = 17;
 
 const CLOSED_EARLY: u32 = 18;
 
-// The samples of two layers, and the words of their rows.
-const PAIR_SAMPLES: usize = 2 * MOST_LAYER;
-
+// The words of the rows of two layers.
 const PAIR_WORDS: usize = 2 * (MOST_WORDS / MOST_SIDE as usize);
 
 // Number 0 and the two counts if granted, else the refusal's number and zero counts.
@@ -99,12 +97,11 @@ fn take_first(head: Head, layer: &[u16], state: &mut [u32]) -> u32
     0
 }
 
-// The points of the first lent layer and the triangles over it, to the front of their rooms, and the new layer into the state, which is written last.
+// The points of the kept layer and the triangles over it, to the front of their rooms, and the new layer into the state, which is written last.
 fn hand_out(
     head: Head,
     sides: Sides,
     grey: u16,
-    samples: &[u16],
     masks: &[u64],
     layer: &[u16],
     state: &mut [u32],
@@ -113,14 +110,15 @@ fn hand_out(
     marks: &mut [u8],
     triangles: &mut [u32],
 ) -> Answered
-    requires { ⌜ Given sides (sides .below) grey (now samples) (now masks) ⌝ }
+    requires { ⌜ Given sides (sides .below) grey (keptIn (sides .nx * sides .ny) (now state) ++ now layer) (now masks) ⌝ }
     requires { ⌜ sides .below + 1 < sides .nz ⌝ }
     requires { ⌜ head ≡ headIn (now state) ⌝ }
     requires { ⌜ (length (now state) ≡ stateLength) × (length (now layer) ≤ mostLayer) × (head .taken < mostSide) ⌝ }
     ensures { λ r.
         let before = rooms (now (points .entry)) (now (edges .entry)) (now (marks .entry)) (now (triangles .entry)) in
         let after = rooms (now (points .exit)) (now (edges .exit)) (now (marks .exit)) (now (triangles .exit)) in
-        let handed = layerThrough (sizeOf sides) grey (gridSamples sides (now (samples .entry))) (sides .below) in
+        let samples = keptIn (sides .nx * sides .ny) (now (state .entry)) ++ now (layer .entry) in
+        let handed = layerThrough (sizeOf sides) grey (gridSamples sides samples) (sides .below) in
         ⌜ left (r .number) (r .points) (r .triangles) after (now (state .exit)) ≡ layerMeasured before (now (state .entry)) (now (layer .entry)) handed ⌝ }
 {
     let room = point_room(points.len(), edges.len(), marks.len());
@@ -128,7 +126,9 @@ fn hand_out(
     if number != 0 {
         return nothing(number);
     }
-    let found = layerparts::hand_points(sides, grey, samples, masks, points, edges, marks);
+    let past = KEPT_AT + sides.nx * sides.ny;
+    let kept = &state[KEPT_AT..past];
+    let found = layerparts::hand_points(sides, grey, kept, layer, masks, points, edges, marks);
     let made = layerparts::hand_triangles(sides, masks, triangles);
     layerstate::write_layered(layer, found, made, state);
     Answered {
@@ -162,18 +162,14 @@ fn take_over(
     let sides = layerparts::frame(head, head.taken as usize - 1);
     let grey = head.grey as u16;
     let nx = sides.nx;
-    let each = nx * sides.ny;
-    let end = each + each;
-    let mut held = [0u16; PAIR_SAMPLES];
-    layerparts::hold(layer, state, each, &mut held);
-    let samples = &held[0..end];
+    let past = KEPT_AT + nx * sides.ny;
+    let kept = &state[KEPT_AT..past];
     let mut masks = [0u64; PAIR_WORDS];
-    masks::fill(samples, nx, sides.ny * 2, grey, &mut masks);
+    masks::fill(kept, layer, nx, sides.ny * 2, grey, &mut masks);
     hand_out(
         head,
         sides,
         grey,
-        samples,
         &masks,
         layer,
         state,
@@ -219,20 +215,20 @@ fn hand_last(
     head: Head,
     sides: Sides,
     grey: u16,
-    samples: &[u16],
     masks: &[u64],
     state: &mut [u32],
     points: &mut [u32],
     edges: &mut [u32],
     marks: &mut [u8],
 ) -> Closed
-    requires { ⌜ Given sides (sides .below) grey (now samples) (now masks) ⌝ }
+    requires { ⌜ Given sides (sides .below) grey (keptIn (sides .nx * sides .ny) (now state)) (now masks) ⌝ }
     requires { ⌜ sides .below < sides .nz ⌝ }
     requires { ⌜ (head ≡ headIn (now state)) × (length (now state) ≡ stateLength) ⌝ }
     ensures { λ r.
         let before = rooms (now (points .entry)) (now (edges .entry)) (now (marks .entry)) [] in
         let after = rooms (now (points .exit)) (now (edges .exit)) (now (marks .exit)) [] in
-        let handed = lastLayer (sizeOf sides) grey (gridSamples sides (now (samples .entry))) (sides .below) in
+        let samples = keptIn (sides .nx * sides .ny) (now (state .entry)) in
+        let handed = lastLayer (sizeOf sides) grey (gridSamples sides samples) (sides .below) in
         ⌜ left (r .number) (r .points) 0 after (now (state .exit)) ≡ closingMeasured before (now (state .entry)) handed ⌝ }
 {
     let found = layerparts::counting::count_points(sides, masks);
@@ -240,7 +236,10 @@ fn hand_last(
     if layerparts::exceeds(head.points, found, MOST_POINTS, room) {
         return not_closed(4);
     }
-    layerparts::hand_points(sides, grey, samples, masks, points, edges, marks);
+    let past = KEPT_AT + sides.nx * sides.ny;
+    let kept = &state[KEPT_AT..past];
+    let none = [0u16; 0];
+    layerparts::hand_points(sides, grey, kept, &none, masks, points, edges, marks);
     layerstate::write_closed(found, state);
     Closed {
         number: 0,
@@ -267,23 +266,12 @@ fn close_over(
     let sides = layerparts::frame(head, head.nz as usize - 1);
     let grey = head.grey as u16;
     let nx = sides.nx;
-    let end = nx * sides.ny;
-    let mut held = [0u16; MOST_LAYER];
-    layerstate::read_kept(state, end, &mut held);
-    let samples = &held[0..end];
+    let past = KEPT_AT + nx * sides.ny;
+    let kept = &state[KEPT_AT..past];
+    let none = [0u16; 0];
     let mut masks = [0u64; PAIR_WORDS];
-    masks::fill(samples, nx, sides.ny, grey, &mut masks);
-    hand_last(
-        head,
-        sides,
-        grey,
-        samples,
-        &masks,
-        state,
-        points,
-        edges,
-        marks,
-    )
+    masks::fill(kept, &none, nx, sides.ny, grey, &mut masks);
+    hand_last(head, sides, grey, &masks, state, points, edges, marks)
 }
 
 // The closing of a run: the points of the last layer, into lent rooms.

@@ -2,14 +2,14 @@
 -- triangles so far, then the kept layer, one sample a number.
 use mathlib.Core.List.{List, _∷_, map}
 use mathlib.Core.Bool.{Bool, _&&_}
-use Prim.Native.Nat.{ℕ, _+_, _*_, _-_, _%_, _^_}
+use Prim.Native.Nat.{ℕ, _+_, _*_, _-_}
 use lib.Dec.{leb}
 use lib.ListN.{getD, take, drop, set, replicate}
 use lib.Seq.{sets}
 use Rattle.grid.specs.Limits.{mostSide, mostNumber}
 use Rattle.grid.specs.Sides.{sidesFit}
 use Rattle.grid.specs.Grid.{Size}
-use Rattle.grid.specs.Work.{size}
+use Rattle.grid.specs.Work.{size, sampleOf}
 
 -- the places of the numbers that calls change
 abbrev pub takenAt : ℕ
@@ -46,11 +46,7 @@ pub record State : Type 0 where
   pub triangles : ℕ
   pub kept : List ℕ
 
--- a kept sample is read by its lowest 16 bits
-abbrev pub sampleOf : ℕ → ℕ
-sampleOf k = k % 2 ^ 16
-
--- the first samples of the kept layer
+-- the first samples of the kept layer, each by the lowest 16 bits of its number
 unfoldable pub keptIn : ℕ → List ℕ → List ℕ
 keptIn many room = map sampleOf (take many (drop keptAt room))
 

@@ -5,11 +5,10 @@ ghost use Prim.Native.Nat.{_+_, _*_, _≤_, _<_, _^_};
 ghost use lib.Dec.{eqb, leb, ltb};
 ghost use lib.ListN.{length, getD};
 ghost use lib.Seq.{sets};
-ghost use Rattle.laws.specs.Room.{laid};
 ghost use Rattle.grid.specs.Limits.{mostNumber};
 ghost use Rattle.grid.specs.Sides.{sidesFit};
 ghost use Rattle.grid.specs.Work.{SidesFit};
-ghost use Rattle.layerstate.specs.State.{takenAt, pointsAt, trianglesAt, keptAt, mostLayer, stateLength, keptIn, openedRoom, layeredRoom, closedRoom};
+ghost use Rattle.layerstate.specs.State.{takenAt, pointsAt, trianglesAt, keptAt, mostLayer, stateLength, openedRoom, layeredRoom, closedRoom};
 ghost use Rattle.layerstate.specs.Heads.{headIn};
 use grid::limits::MOST_NUMBER;
 use grid::limits::MOST_SIDE;
@@ -23,15 +22,13 @@ const POINTS_AT: usize = 6;
 
 const TRIANGLES_AT: usize = 7;
 
-const KEPT_AT: usize = 8;
+// Where the kept layer begins.
+pub const KEPT_AT: usize = 8;
 
 // The samples of the largest layer, and the numbers of a state.
-pub const MOST_LAYER: usize = (MOST_SIDE * MOST_SIDE) as usize;
+const MOST_LAYER: usize = (MOST_SIDE * MOST_SIDE) as usize;
 
 pub const STATE_LENGTH: usize = KEPT_AT + MOST_LAYER;
-
-// A sample is below this.
-const SAMPLES: u32 = 65_536;
 
 // The numbers of a state before its kept layer.
 pub struct Head {
@@ -101,17 +98,6 @@ pub fn is_early(head: Head) -> bool
         return true;
     }
     is_closed(head)
-}
-
-// The first samples of the kept layer, to the front of a room.
-pub fn read_kept(state: &[u32], many: usize, samples: &mut [u16])
-    requires { ⌜ keptAt + many ≤ length (now state) ⌝ }
-    requires { ⌜ many ≤ length (now samples) ⌝ }
-    ensures { λ _. ⌜ now (samples .exit) ≡ laid (keptIn many (now (state .entry))) (now (samples .entry)) ⌝ }
-{
-    for i in 0..many {
-        samples[i] = (state[KEPT_AT + i] % SAMPLES) as u16;
-    }
 }
 
 // The layer in the kept one's place.

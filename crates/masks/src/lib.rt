@@ -1,11 +1,14 @@
 // Rows of samples in words of bits, so that a few operations on words say where in a row something is crossed.
 ghost use mathlib.Core.Path.{_≡_};
+ghost use mathlib.Core.List.{map};
 ghost use Prim.Native.Nat.{_+_, _*_, _-_, _/_, _<_, _≤_, _^_};
 ghost use lib.Dec.{leb};
 ghost use lib.ListN.{length, getD};
+ghost use lib.Seq.{sets};
 ghost use Rattle.laws.specs.Bits.{wordBits};
 ghost use Rattle.laws.specs.Range.{one-if};
 ghost use Rattle.laws.specs.Room.{laid};
+ghost use Rattle.grid.specs.Work.{sampleOf, lentSamples};
 ghost use Rattle.masks.specs.Masks.{wordCubes, rowWords, lastSamples, Masked, AllSet};
 ghost use Rattle.masks.specs.Flags.{mostFlagged, flagBytes, AreFlags, flagsFrom, fourBytes, flagMask, gathered, Gathered};
 use grid::limits::MOST_ROWS;
@@ -51,15 +54,53 @@ fn above_flag(sample: u16, grey: u16) -> u8
     if grey <= sample { 1 } else { 0 }
 }
 
-// Flags so many samples from `start` on: a loop in which the compiler takes sixteen samples at a time.
-fn flag_samples(samples: &[u16], start: usize, many: usize, grey: u16, flags: &mut [u8])
-    requires { ⌜ start + many ≤ length (now samples) ⌝ }
+// The same of a kept sample. It is compared in 32 bits, so that the compiler takes eight at a time.
+fn kept_flag(number: u32, grey: u16) -> u8
+    ensures { λ r. ⌜ r ≡ one-if (leb grey (sampleOf number)) ⌝ }
+{
+    if grey as u32 <= grid::sample_of(number) {
+        1
+    } else {
+        0
+    }
+}
+
+// Flags so many kept samples from `start` on, in the front of the flags.
+fn flag_kept(kept: &[u32], start: usize, many: usize, grey: u16, flags: &mut [u8])
+    requires { ⌜ start + many ≤ length (now kept) ⌝ }
     requires { ⌜ many ≤ length (now flags) ⌝ }
-    ensures { λ _. ⌜ now (flags .exit) ≡ laid (flagsFrom grey (now (samples .entry)) start many) (now (flags .entry)) ⌝ }
+    ensures { λ _. ⌜ now (flags .exit) ≡ laid (flagsFrom grey (map sampleOf (now (kept .entry))) start many) (now (flags .entry)) ⌝ }
 {
     for i in 0..many {
-        flags[i] = above_flag(samples[start + i], grey);
+        flags[i] = kept_flag(kept[start + i], grey);
     }
+}
+
+// Flags so many samples from `start` on, in the flags from `at` on: a loop in which the compiler takes sixteen samples at a time.
+fn flag_samples(samples: &[u16], start: usize, many: usize, grey: u16, at: usize, flags: &mut [u8])
+    requires { ⌜ start + many ≤ length (now samples) ⌝ }
+    requires { ⌜ at + many ≤ length (now flags) ⌝ }
+    ensures { λ _. ⌜ now (flags .exit) ≡ sets (now (flags .entry)) at (flagsFrom grey (now (samples .entry)) start many) ⌝ }
+{
+    for i in 0..many {
+        flags[at + i] = above_flag(samples[start + i], grey);
+    }
+}
+
+// Flags so many of the samples lent, from `start` on.
+fn flag_lent(kept: &[u32], samples: &[u16], start: usize, many: usize, grey: u16, flags: &mut [u8])
+    requires { ⌜ start + many ≤ length (lentSamples (now kept) (now samples)) ⌝ }
+    requires { ⌜ many ≤ length (now flags) ⌝ }
+    ensures { λ _. ⌜ now (flags .exit) ≡ laid (flagsFrom grey (lentSamples (now (kept .entry)) (now (samples .entry))) start many) (now (flags .entry)) ⌝ }
+{
+    let end = kept.len();
+    if end <= start {
+        flag_samples(samples, start - end, many, grey, 0, flags);
+        return;
+    }
+    let here = rooms::least(end - start, many);
+    flag_kept(kept, start, here, grey, flags);
+    flag_samples(samples, 0, many - here, grey, here, flags);
 }
 
 // One flag.
@@ -169,9 +210,9 @@ fn mask_rows(
 }
 
 // The words of all rows. Many rows are flagged before the first of them is gathered: what was stored just before in another width is read late.
-pub fn fill(samples: &[u16], nx: usize, rows: usize, grey: u16, masks: &mut [u64])
-    requires { ⌜ (2 ≤ nx) × (nx ≤ mostFlagged) × (rowWords nx * rows ≤ length (now masks)) × (length (now samples) ≡ nx * rows) ⌝ }
-    ensures { λ _. ⌜ Masked nx rows grey (now (samples .entry)) (now (masks .exit)) ⌝ }
+pub fn fill(kept: &[u32], samples: &[u16], nx: usize, rows: usize, grey: u16, masks: &mut [u64])
+    requires { ⌜ (2 ≤ nx) × (nx ≤ mostFlagged) × (rowWords nx * rows ≤ length (now masks)) × (length (lentSamples (now kept) (now samples)) ≡ nx * rows) ⌝ }
+    ensures { λ _. ⌜ Masked nx rows grey (lentSamples (now (kept .entry)) (now (samples .entry))) (now (masks .exit)) ⌝ }
 {
     let mut flags = [0u8; FLAG_BYTES];
     let most = MOST_FLAGGED / nx;
@@ -179,7 +220,7 @@ pub fn fill(samples: &[u16], nx: usize, rows: usize, grey: u16, masks: &mut [u64
     let mut to = 0;
     while r < rows {
         let many = rooms::least(most, rows - r);
-        flag_samples(samples, nx * r, nx * many, grey, &mut flags);
+        flag_lent(kept, samples, nx * r, nx * many, grey, &mut flags);
         to = mask_rows(&flags, nx, many, to, masks);
         r += many;
     }

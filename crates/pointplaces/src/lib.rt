@@ -51,10 +51,22 @@ pub fn place(
         last: masks::last_mask(nx),
         below: 0,
     };
+    let kept = [0u32; 0];
     let mut n: usize = 0;
     let mut z: usize = 0;
     while z < nz {
-        n = place_layer(sides, grey, z, n, samples, masks, points, edges, marks);
+        n = place_layer(
+            sides,
+            grey,
+            z,
+            n,
+            &kept,
+            samples,
+            masks,
+            points,
+            edges,
+            marks,
+        );
         z += 1;
     }
 }

@@ -1,5 +1,6 @@
 // The points' places, grid edges and marks, written to the front of their rooms, stretch by stretch.
 ghost use Prim.Native.Nat.{_+_, _*_, _<_};
+ghost use Rattle.grid.specs.Work.{lentSamples};
 ghost use Rattle.rows.specs.Rows.{Stands, ownSamples, layerFirst};
 ghost use Rattle.edgepoints.specs.EdgePoint.{pointRooms, Standing, RoomsFor};
 ghost use Rattle.pointplaces.specs.Places.{SamplePlaceable, SamplePlaced, Given, numberPast, Placed};
@@ -16,14 +17,15 @@ fn place_sample(
     grey: u16,
     at: Sample,
     from: usize,
+    kept: &[u32],
     samples: &[u16],
     points: &mut [u32],
     edges: &mut [u32],
     marks: &mut [u8],
 ) -> usize
     requires { ⌜ Standing sides at ⌝ }
-    requires { ⌜ SamplePlaceable sides (now samples) (at .place) from cuts (pointRooms (now points) (now edges) (now marks)) ⌝ }
-    ensures { λ r. ⌜ SamplePlaced sides grey (now (samples .entry)) (at .s) from r cuts
+    requires { ⌜ SamplePlaceable sides (lentSamples (now kept) (now samples)) (at .place) from cuts (pointRooms (now points) (now edges) (now marks)) ⌝ }
+    ensures { λ r. ⌜ SamplePlaced sides grey (lentSamples (now (kept .entry)) (now (samples .entry))) (at .s) from r cuts
         (pointRooms (now (points .entry)) (now (edges .entry)) (now (marks .entry)))
         (pointRooms (now (points .exit)) (now (edges .exit)) (now (marks .exit))) ⌝ }
 {
@@ -34,13 +36,38 @@ fn place_sample(
         grey,
         at,
         from,
+        kept,
         samples,
         points,
         edges,
         marks,
     );
-    let n = place_edge(cuts.y, 1, sides, grey, at, n, samples, points, edges, marks);
-    place_edge(cuts.z, 2, sides, grey, at, n, samples, points, edges, marks)
+    let n = place_edge(
+        cuts.y,
+        1,
+        sides,
+        grey,
+        at,
+        n,
+        kept,
+        samples,
+        points,
+        edges,
+        marks,
+    );
+    place_edge(
+        cuts.z,
+        2,
+        sides,
+        grey,
+        at,
+        n,
+        kept,
+        samples,
+        points,
+        edges,
+        marks,
+    )
 }
 
 // The points of a stretch's own samples, from a number on, at one busy sample after the other. Answers the number after the last.
@@ -50,18 +77,19 @@ fn place_stretch(
     at: Stretch,
     z: usize,
     from: usize,
+    kept: &[u32],
     samples: &[u16],
     masks: &[u64],
     points: &mut [u32],
     edges: &mut [u32],
     marks: &mut [u8],
 ) -> usize
-    requires { ⌜ Given sides z grey (now samples) (now masks) ⌝ }
+    requires { ⌜ Given sides z grey (lentSamples (now kept) (now samples)) (now masks) ⌝ }
     requires { ⌜ Stands sides z at ⌝ }
     requires { ⌜ at .y < sides .ny ⌝ }
     requires { ⌜ z < sides .nz ⌝ }
     requires { ⌜ RoomsFor (numberPast sides (now masks) (3 * at .s) (3 * (at .s + ownSamples (at .left))) from) (pointRooms (now points) (now edges) (now marks)) ⌝ }
-    ensures { λ r. ⌜ Placed sides grey (now (samples .entry)) (now (masks .entry)) (3 * at .s) (3 * (at .s + ownSamples (at .left))) from r
+    ensures { λ r. ⌜ Placed sides grey (lentSamples (now (kept .entry)) (now (samples .entry))) (now (masks .entry)) (3 * at .s) (3 * (at .s + ownSamples (at .left))) from r
         (pointRooms (now (points .entry)) (now (edges .entry)) (now (marks .entry)))
         (pointRooms (now (points .exit)) (now (edges .exit)) (now (marks .exit))) ⌝ }
 {
@@ -81,7 +109,18 @@ fn place_stretch(
             z,
         };
         let cuts = crossed.cuts(i);
-        n = place_sample(cuts, sides, grey, sample, n, samples, points, edges, marks);
+        n = place_sample(
+            cuts,
+            sides,
+            grey,
+            sample,
+            n,
+            kept,
+            samples,
+            points,
+            edges,
+            marks,
+        );
         busy = busy & (busy - 1);
     }
     n
@@ -93,23 +132,36 @@ pub fn place_layer(
     grey: u16,
     z: usize,
     from: usize,
+    kept: &[u32],
     samples: &[u16],
     masks: &[u64],
     points: &mut [u32],
     edges: &mut [u32],
     marks: &mut [u8],
 ) -> usize
-    requires { ⌜ Given sides z grey (now samples) (now masks) ⌝ }
+    requires { ⌜ Given sides z grey (lentSamples (now kept) (now samples)) (now masks) ⌝ }
     requires { ⌜ z < sides .nz ⌝ }
     requires { ⌜ RoomsFor (numberPast sides (now masks) (3 * layerFirst sides z) (3 * layerFirst sides (z + 1)) from) (pointRooms (now points) (now edges) (now marks)) ⌝ }
-    ensures { λ r. ⌜ Placed sides grey (now (samples .entry)) (now (masks .entry)) (3 * layerFirst sides z) (3 * layerFirst sides (z + 1)) from r
+    ensures { λ r. ⌜ Placed sides grey (lentSamples (now (kept .entry)) (now (samples .entry))) (now (masks .entry)) (3 * layerFirst sides z) (3 * layerFirst sides (z + 1)) from r
         (pointRooms (now (points .entry)) (now (edges .entry)) (now (marks .entry)))
         (pointRooms (now (points .exit)) (now (edges .exit)) (now (marks .exit))) ⌝ }
 {
     let mut n = from;
     let mut at = rows::first(sides, z);
     while at.y < sides.ny {
-        n = place_stretch(sides, grey, at, z, n, samples, masks, points, edges, marks);
+        n = place_stretch(
+            sides,
+            grey,
+            at,
+            z,
+            n,
+            kept,
+            samples,
+            masks,
+            points,
+            edges,
+            marks,
+        );
         at = rows::next(sides, at);
     }
     n

@@ -1,5 +1,5 @@
 -- `edgepoints::place_edge` meets its contract. Assumes nothing.
-use mathlib.Core.Path.{_≡_, refl}
+use mathlib.Core.Path.{_≡_, refl, ap₂, sym, _∙_}
 use mathlib.Core.Bool.{true, false}
 use Prim.Native.Nat.{_+_, _<_}
 use native.Mathlib.Omega.{arith}
@@ -7,6 +7,9 @@ use denote.Ref.{now}
 use lib.ListN.{length, getD}
 use borrow.Author.Needs.{needs}
 use borrow.Author.Tests.{not-true, not-false}
+use Rattle.grid.specs.Point.{offset}
+use Rattle.grid.specs.Work.{lentSamples}
+use Rattle.grid.proofs.Lent.{length-lent}
 use Rattle.rows.specs.Rows.{sizeOf}
 use Rattle.edgepoints.specs.EdgePoint.{PointRooms, pointRooms, Placeable}
 use Rattle.edgepoints.proofs.Placed.{offset-fits, point-written}
@@ -15,12 +18,12 @@ use Rattle.edgepoints.proofs.place_edge.Tie as tie
 
 returns : tie.Need-returns
 returns c =
-    let a = c .before .before .before .before .before .args in
+    let a = c .before .before .before .before .before .before .args in
     let uncrossed : a .cut ≡ false = not-true _ (c .if1 .taken) in
     rw uncrossed (omega arith, refl)
 
 abbrev start : tie.Else1 → tie.Start
-start c = c .before .before .before .before .before
+start c = c .before .before .before .before .before .before
 
 -- past the test the edge is crossed, and its point can be placed
 crossed-here : (c : tie.Else1) → start c .args .cut ≡ true
@@ -28,15 +31,15 @@ crossed-here c = not-false _ (c .if1 .left)
 
 able : (c : tie.Else1)
     → let a = start c .args in
-    Placeable (sizeOf (a .sides)) (now (a .samples)) (a .at .place) (a .axis) (a .n) (pointRooms (now (a .points)) (now (a .edges)) (now (a .marks)))
+    Placeable (sizeOf (a .sides)) (lentSamples (now (a .kept)) (now (a .samples))) (a .at .place) (a .axis) (a .n) (pointRooms (now (a .points)) (now (a .edges)) (now (a .marks)))
 able c = start c .pre .1 .1 (crossed-here c)
 
 -- the other end is a sample too, and differs
-other-there : (c : tie.After-step-of) → let a = start (c .before) .args in a .at .place + c .step-of .result < length (now (a .samples))
+other-there : (c : tie.After-step-of) → let a = start (c .before) .args in a .at .place + c .step-of .result < length (lentSamples (now (a .kept)) (now (a .samples)))
 other-there c = rw (c .step-of .ensures) (able (c .before) .there)
 
 others-differ : (c : tie.After-step-of) → let a = start (c .before) .args in
-    getD (now (a .samples)) (a .at .place) 0 ≡ getD (now (a .samples)) (a .at .place + c .step-of .result) 0 → ⊥
+    getD (lentSamples (now (a .kept)) (now (a .samples))) (a .at .place) 0 ≡ getD (lentSamples (now (a .kept)) (now (a .samples))) (a .at .place + c .step-of .result) 0 → ⊥
 others-differ c = rw (c .step-of .ensures) (able (c .before) .differ)
 
 -- the rooms as they come, and past the write
@@ -52,30 +55,26 @@ step-of-requires : tie.Need-step-of-requires
 step-of-requires c κs = (start c .pre .0 .fit, start c .pre .1 .0)
 
 add-other : tie.Need-add-other
-add-other c = omega (arith, other-there c)
+add-other c =
+    let a = start (c .before) .args in
+    omega (arith, other-there c, length-lent (now (a .kept)) (now (a .samples)))
 
-mul-offset : tie.Need-mul-offset
-mul-offset c = omega (arith, other-there c)
+sample-at-requires : tie.Need-sample-at-requires
+sample-at-requires c κs = omega (arith, other-there c)
 
-shared-slice-read-offset : tie.Need-shared-slice-read-offset
-shared-slice-read-offset c = omega (arith, other-there (c .before))
-
-mul-offset-2 : tie.Need-mul-offset-2
-mul-offset-2 c = omega (arith, other-there (c .before))
-
-shared-slice-read-offset-2 : tie.Need-shared-slice-read-offset-2
-shared-slice-read-offset-2 c = other-there (c .before .before)
+sample-at-requires-2 : tie.Need-sample-at-requires-2
+sample-at-requires-2 c κs = other-there (c .before)
 
 offset-requires : tie.Need-offset-requires
-offset-requires c κs = others-differ (c .before .before)
+offset-requires c κs = λ same. others-differ (c .before .before) (sym (c .before .sample-at .ensures) ∙ same ∙ c .sample-at2 .ensures)
 
 point-on-requires : tie.Need-point-on-requires
 point-on-requires c κs =
     let step = c .before .before .before in
     let s = start (step .before) in
-    let v0 = c .before .before .shared-slice-known2 .given (s .args .at .place) .fits in
-    let v1 = c .before .shared-slice-known3 .given (s .args .at .place + step .step-of .result) .fits in
-    (s .pre .0, (s .pre .1 .0, rw (c .offset .ensures) (offset-fits _ _ _ v0 v1 (s .fits .grey .fits))))
+    let v0 = c .before .before .sample-at .ok in
+    let v1 = c .before .sample-at2 .ok in
+    (s .pre .0, (s .pre .1 .0, rw (c .offset .ensures) (offset-fits _ _ _ (omega (arith, v0)) (omega (arith, v1)) (s .fits .grey .fits))))
 
 write-point-requires : tie.Need-write-point-requires
 write-point-requires c κs = able (c .before .before .before .before .before .before .before .before) .room
@@ -104,10 +103,10 @@ returns-2 c =
     let a = s .args in
     rw (crossed-here (step .before)) (
       refl,
-      point-written (a .sides) (a .grey) (now (a .samples)) (a .at .s) (a .at .place) (a .axis) (step .step-of .result) (a .n) (o .offset .result) (p .point-on .result) (first-rooms s) (past w)
+      point-written (a .sides) (a .grey) (lentSamples (now (a .kept)) (now (a .samples))) (a .at .s) (a .at .place) (a .axis) (step .step-of .result) (a .n) (o .offset .result) (p .point-on .result) (first-rooms s) (past w)
           (s .pre .0 .lent)
           (step .step-of .ensures)
-          (o .offset .ensures)
+          (o .offset .ensures ∙ ap₂ (λ v0 v1. offset v0 v1 (a .grey)) (o .before .before .sample-at .ensures) (o .before .sample-at2 .ensures))
           (p .point-on .ensures)
           (w .write-point .ensures),
     )
@@ -119,10 +118,8 @@ place-edge-spec =
     returns
     step-of-requires
     add-other
-    mul-offset
-    shared-slice-read-offset
-    mul-offset-2
-    shared-slice-read-offset-2
+    sample-at-requires
+    sample-at-requires-2
     offset-requires
     point-on-requires
     write-point-requires

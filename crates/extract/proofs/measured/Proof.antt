@@ -25,7 +25,7 @@ use Rattle.extract.proofs.measured.Tie as tie
 
 -- the places on the way
 abbrev begun : tie.After-fill → tie.Start
-begun c = c .before .before .before .before .before .before .before .before
+begun c = c .before .before .before .before .before .before .before .before .before
 
 abbrev masked : tie.After-number → tie.After-fill
 masked c = c .before .before .before .before
@@ -62,33 +62,36 @@ work-kept : (c : tie.After-number) → length (c .number .last .1 .1 .1 .1 .0) �
 work-kept c = c .number .ensures .1 .whole ∙ sym (begun (masked c) .pre .1 .1)
 
 -- each row has its words
-masks-long : (c : tie.After-fill) → length (c .fill .last .1 .1 .1 .1 .0) ≡ mostWords
-masks-long c = c .fill .kept .1 .1 .1 .1 .0
+masks-long : (c : tie.After-fill) → length (c .fill .last .1 .1 .1 .1 .1 .0) ≡ mostWords
+masks-long c = c .fill .kept .1 .1 .1 .1 .1 .0
 
-rows-masked : (c : tie.After-fill) → rowWords (begun c .args .nx) * (begun c .args .ny * begun c .args .nz) ≤ length (c .fill .last .1 .1 .1 .1 .0)
+rows-masked : (c : tie.After-fill) → rowWords (begun c .args .nx) * (begun c .args .ny * begun c .args .nz) ≤ length (c .fill .last .1 .1 .1 .1 .1 .0)
 rows-masked c =
     let s = begun c in
     omega (arith, masks-long c, words-most (s .args .nx) (s .args .ny) (s .args .nz) (s .pre .0))
 
 -- and neighbouring words agree
-agreeing : (c : tie.After-fill) → Agreeing (begun c .args .nx) (begun c .args .ny * begun c .args .nz) (c .fill .last .1 .1 .1 .1 .0)
+agreeing : (c : tie.After-fill) → Agreeing (begun c .args .nx) (begun c .args .ny * begun c .args .nz) (c .fill .last .1 .1 .1 .1 .1 .0)
 agreeing c = let a = begun c .args in told-agrees (a .nx) (a .ny * a .nz) (isAboveGrey (a .grey) (a .samples .now)) _ (begun c .pre .0 .least-x) (c .fill .ensures)
 
 -- points and triangles within their rooms
 points-fit : (c : tie.After-exceeds2) → ltb (min mostPoints (counted c .before .least2 .result)) (numbered (counted c) .number .result) ≡ false
 points-fit c = sym (counted c .exceeds .ensures) ∙ c .before .before .before .if1 .left
 
-mul-fill : tie.Need-mul-fill
-mul-fill c =
-    let s = c .before .before .before .before .before .before in
-    omega (arith, rows-most (s .args .nx) (s .args .ny) (s .args .nz) (s .pre .0))
-
 slice-aggregate-fill : tie.Need-slice-aggregate-fill
 slice-aggregate-fill c = search needs
 
+mul-fill : tie.Need-mul-fill
+mul-fill c =
+    let s = c .before .before .before .before .before .before .before in
+    omega (arith, rows-most (s .args .nx) (s .args .ny) (s .args .nz) (s .pre .0))
+
+slice-aggregate-fill-2 : tie.Need-slice-aggregate-fill-2
+slice-aggregate-fill-2 c = search needs
+
 fill-requires : tie.Need-fill-requires
 fill-requires c κs =
-    let s = c .before .before .before .before .before .before .before in (
+    let s = c .before .before .before .before .before .before .before .before in (
       s .pre .0 .least-x,
       omega (arith, s .pre .0 .most-x),
       words-most (s .args .nx) (s .args .ny) (s .args .nz) (s .pre .0),
@@ -128,7 +131,7 @@ returns c =
     let a = s .args in
     let answer = later .refused-later .ensures .0 in
     rw (answer .0, answer .1, answer .2)
-    (too-many-points (a .nx) (a .ny) (a .nz) (a .grey) (a .samples .now) (f .fill .last .1 .1 .1 .1 .0) (s .pre .0) (f .fill .ensures) (lent s)
+    (too-many-points (a .nx) (a .ny) (a .nz) (a .grey) (a .samples .now) (f .fill .last .1 .1 .1 .1 .1 .0) (s .pre .0) (f .fill .ensures) (lent s)
     (n .number .result)
     (tests .before .least2 .result)
     (later .refused-later .last .1 .0)
@@ -165,7 +168,7 @@ returns-2 c =
     let a = s .args in
     let answer = later .refused-later2 .ensures .0 in
     rw (answer .0, answer .1, answer .2)
-    (too-many-triangles (a .nx) (a .ny) (a .nz) (a .grey) (a .samples .now) (f .fill .last .1 .1 .1 .1 .0) (s .pre .0) (f .fill .ensures) (lent s)
+    (too-many-triangles (a .nx) (a .ny) (a .nz) (a .grey) (a .samples .now) (f .fill .last .1 .1 .1 .1 .1 .0) (s .pre .0) (f .fill .ensures) (lent s)
     (n .number .result)
     (made .before .count .result)
     (tests .before .least2 .result)
@@ -188,7 +191,7 @@ place-requires c κs =
     let f = masked n in
     let s = begun f in
     let a = s .args in
-    let hold = rooms-hold (a .nx) (a .ny) (a .nz) (a .grey) (a .samples .now) (f .fill .last .1 .1 .1 .1 .0) (s .pre .0) (f .fill .ensures)
+    let hold = rooms-hold (a .nx) (a .ny) (a .nz) (a .grey) (a .samples .now) (f .fill .last .1 .1 .1 .1 .1 .0) (s .pre .0) (f .fill .ensures)
     (n .number .result) (tests .before .least2 .result) (length (a .points .now)) (length (a .edges .now)) (length (a .marks .now))
     (n .number .ensures .0) (room-is tests) (points-fit made) in
     (s .pre .0, (rows-masked f, (s .pre .1 .0, (f .fill .ensures, (hold .0, (hold .1, hold .2))))))
@@ -211,7 +214,7 @@ write-requires c κs =
           agreeing f,
           (
             λ some. omega (arith, n .number .ensures .1 .whole),
-            triangles-hold (a .nx) (a .ny) (a .nz) (a .grey) (a .samples .now) (f .fill .last .1 .1 .1 .1 .0) (s .pre .0) (f .fill .ensures)
+            triangles-hold (a .nx) (a .ny) (a .nz) (a .grey) (a .samples .now) (f .fill .last .1 .1 .1 .1 .1 .0) (s .pre .0) (f .fill .ensures)
                 (made .before .count .result) (length (a .triangles .now)) (made .before .count .ensures) (sym (made .exceeds2 .ensures) ∙ else .if2 .left),
           ),
         ),
@@ -250,7 +253,7 @@ returns-3 c =
     let f = masked n in
     let s = begun f in
     let a = s .args in
-    all-granted (a .nx) (a .ny) (a .nz) (a .grey) (a .samples .now) (f .fill .last .1 .1 .1 .1 .0) (s .pre .0) (f .fill .ensures) (lent s)
+    all-granted (a .nx) (a .ny) (a .nz) (a .grey) (a .samples .now) (f .fill .last .1 .1 .1 .1 .1 .0) (s .pre .0) (f .fill .ensures) (lent s)
     (n .number .result)
     (made .before .count .result)
     (tests .before .least2 .result)
@@ -265,15 +268,16 @@ returns-3 c =
     (place .place .ensures .1 .1)
     (write .write .ensures
     ∙ ap (λ xs. laid xs (a .triangles .now))
-    (mesh-named cubes cubes-sides-cut (size (a .nx) (a .ny) (a .nz)) (maskAbove (a .nx) (f .fill .last .1 .1 .1 .1 .0)) (n .number .last .1 .1 .1 .1 .0) (n .number .ensures .1)))
+    (mesh-named cubes cubes-sides-cut (size (a .nx) (a .ny) (a .nz)) (maskAbove (a .nx) (f .fill .last .1 .1 .1 .1 .1 .0)) (n .number .last .1 .1 .1 .1 .0) (n .number .ensures .1)))
     (clear .clear .ensures ∙ ap (λ k. replicate k 0) (work-kept n))
 
 pub measured-spec : {M : Type 1} → statement M
 measured-spec =
     tie.close
     (tie.spec
-    mul-fill
     slice-aggregate-fill
+    mul-fill
+    slice-aggregate-fill-2
     fill-requires
     slice-aggregate-number
     number-requires

@@ -6,6 +6,8 @@ use native.Mathlib.Omega.{arith}
 use borrow.Author.Needs.{needs}
 use lib.ListN.{length}
 use Rattle.laws.proofs.Rooms.{zeros-at}
+use Rattle.grid.specs.Work.{lentSamples}
+use Rattle.grid.proofs.Lent.{length-lent}
 use Rattle.masks.specs.Masks.{rowWords, Masked}
 use Rattle.masks.specs.Flags.{flagBytes, mostFlagged, AreFlags}
 use Rattle.masks.proofs.Flags.{still-flags}
@@ -14,18 +16,18 @@ use Rattle.masks.proofs.fill.Statement.{statement}
 use Rattle.masks.proofs.fill.Tie as tie
 
 abbrev Inv-loop : tie.InvT-loop
-Inv-loop samples nx rows grey masks₀ flags₀ most r₀ to₀ masks flags r to =
-    (length masks ≡ length masks₀) × (length flags ≡ flagBytes) × (r ≤ rows) × AreFlags flags × (to ≡ rowWords nx * r) × Masked nx r grey samples masks
+Inv-loop kept samples nx rows grey masks₀ flags₀ most r₀ to₀ masks flags r to =
+    (length masks ≡ length masks₀) × (length flags ≡ flagBytes) × (r ≤ rows) × AreFlags flags × (to ≡ rowWords nx * r) × Masked nx r grey (lentSamples kept samples) masks
 
 abbrev μ-loop : tie.MeasureT-loop
-μ-loop samples nx rows grey masks₀ flags₀ most r₀ to₀ masks flags r to = rows - r
+μ-loop kept samples nx rows grey masks₀ flags₀ most r₀ to₀ masks flags r to = rows - r
 
 div-most : tie.Need-div-most Inv-loop μ-loop
 div-most c = search needs
 
 loop-holds : tie.Need-loop-holds Inv-loop μ-loop
 loop-holds c =
-    let a = c .before .before .args in
+    let a = c .before .before .before .args in
     (refl, refl, omega arith, λ i. omega (arith, zeros-at flagBytes i), omega (arith, mul-zero (rowWords (a .nx))), λ r w i l. absurd (omega arith))
 
 sub-least : tie.Need-sub-least Inv-loop μ-loop
@@ -43,9 +45,9 @@ record Batch (nx rows r many : ℕ) : Type 0 where
   words : rowWords nx * r + rowWords nx * many ≤ rowWords nx * rows
 
 batch : (c : tie.After-least Inv-loop μ-loop)
-    → Batch (c .before .before .before .before .before .args .nx) (c .before .before .before .before .before .args .rows) (c .before .before .loop .r) (c .least .result)
+    → Batch (c .before .before .before .before .before .before .args .nx) (c .before .before .before .before .before .before .args .rows) (c .before .before .loop .r) (c .least .result)
 batch c =
-    let a = c .before .before .before .before .before .args in
+    let a = c .before .before .before .before .before .before .args in
     let l = c .before .before .loop in
     let least = c .least .ensures in
     let left : l .r + c .least .result ≤ a .rows = omega (arith, least) in
@@ -58,26 +60,28 @@ batch c =
       words = within (rowWords (a .nx));
     }
 
-mul-flag-samples : tie.Need-mul-flag-samples Inv-loop μ-loop
-mul-flag-samples c = omega (arith, batch c)
+mul-flag-lent : tie.Need-mul-flag-lent Inv-loop μ-loop
+mul-flag-lent c =
+    let a = c .before .before .before .before .before .before .args in
+    omega (arith, batch c, length-lent (a .kept .now) (a .samples .now))
 
-mul-flag-samples-2 : tie.Need-mul-flag-samples-2 Inv-loop μ-loop
-mul-flag-samples-2 c = omega (arith, batch c)
+mul-flag-lent-2 : tie.Need-mul-flag-lent-2 Inv-loop μ-loop
+mul-flag-lent-2 c = omega (arith, batch c)
 
-slice-aggregate-flag-samples : tie.Need-slice-aggregate-flag-samples Inv-loop μ-loop
-slice-aggregate-flag-samples c = sym (c .before .before .before .loop .inv .1)
+slice-aggregate-flag-lent : tie.Need-slice-aggregate-flag-lent Inv-loop μ-loop
+slice-aggregate-flag-lent c = sym (c .before .before .before .loop .inv .1)
 
-flag-samples-requires : tie.Need-flag-samples-requires Inv-loop μ-loop
-flag-samples-requires c κs =
+flag-lent-requires : tie.Need-flag-lent-requires Inv-loop μ-loop
+flag-lent-requires c κs =
     let l = c .before .before .before .loop in
     (omega (arith, batch (c .before)), omega (arith, batch (c .before), l .inv .1))
 
 -- flags stay flags
-flags-next : (c : tie.After-flag-samples Inv-loop μ-loop) → AreFlags (c .flag-samples .last .1 .1 .1 .1 .0)
+flags-next : (c : tie.After-flag-lent Inv-loop μ-loop) → AreFlags (c .flag-lent .last .1 .1 .1 .1 .1 .0)
 flags-next c =
-    let a = c .before .before .before .before .before .before .before .args in
+    let a = c .before .before .before .before .before .before .before .before .args in
     let l = c .before .before .before .before .loop in
-    rw (c .flag-samples .ensures) (still-flags (a .grey) (a .samples .now) _ _ (l .flags) (l .inv .3))
+    rw (c .flag-lent .ensures) (still-flags (a .grey) (lentSamples (a .kept .now) (a .samples .now)) _ _ (l .flags) (l .inv .3))
 
 mask-rows-requires : tie.Need-mask-rows-requires Inv-loop μ-loop
 mask-rows-requires c κs =
@@ -93,17 +97,17 @@ loop-less c = omega (arith, batch (c .before .before .before .before .before .be
 
 loop-again : tie.Need-loop-again Inv-loop μ-loop
 loop-again c =
-    let a = c .before .before .before .before .before .before .before .before .before .before .before .before .before .args in
+    let a = c .before .before .before .before .before .before .before .before .before .before .before .before .before .before .args in
     let l = c .before .before .before .before .before .before .before .before .before .before .loop in
     let many = c .before .before .before .before .before .before .before .before in
-    let flagged = c .before .before .before .before .before .before .flag-samples in
+    let flagged = c .before .before .before .before .before .before .flag-lent in
     let masked = c .before .before .mask-rows in (
       masked .kept .1 .1 .1 .1 .0 ∙ l .inv .0,
-      flagged .kept .1 .1 .1 .1 .0 ∙ l .inv .1,
+      flagged .kept .1 .1 .1 .1 .1 .0 ∙ l .inv .1,
       batch many .left,
       flags-next (c .before .before .before .before .before .before),
       omega (arith, masked .ensures .0, l .inv .4, mul-add (rowWords (a .nx)) (l .r) (many .least .result)),
-      batch-next (a .nx) (a .grey) (a .samples .now) (l .flags) (l .r) (flagged .ensures) (l .inv .4) (l .inv .5) (masked .ensures .1),
+      batch-next (a .nx) (a .grey) (lentSamples (a .kept .now) (a .samples .now)) (l .flags) (l .r) (flagged .ensures) (l .inv .4) (l .inv .5) (masked .ensures .1),
     )
 
 same-length : tie.Need-same-length Inv-loop μ-loop
@@ -112,7 +116,7 @@ same-length c = c .before .loop .inv .0
 returns : tie.Need-returns Inv-loop μ-loop
 returns c =
     let l = c .before .loop in
-    let all : l .r ≡ c .before .before .before .before .args .rows = omega arith in
+    let all : l .r ≡ c .before .before .before .before .before .args .rows = omega arith in
     rw (← all) (l .inv .5)
 
 pub fill-spec : {M : Type 1} → statement M
@@ -125,10 +129,10 @@ fill-spec =
     loop-holds
     sub-least
     least-requires
-    mul-flag-samples
-    mul-flag-samples-2
-    slice-aggregate-flag-samples
-    flag-samples-requires
+    mul-flag-lent
+    mul-flag-lent-2
+    slice-aggregate-flag-lent
+    flag-lent-requires
     mask-rows-requires
     add-r
     loop-less

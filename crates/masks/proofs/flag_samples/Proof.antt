@@ -1,27 +1,28 @@
 -- `masks::flag_samples` meets its contract. The samples passed are flagged. Assumes nothing.
-use mathlib.Core.Path.{_≡_, refl, sym}
+use mathlib.Core.Path.{_≡_, refl}
 use Prim.Native.Nat.{ℕ, _+_, _-_, _≤_}
 use native.Mathlib.Omega.{arith}
 use lib.Dec.{leb}
 use lib.ListN.{length, getD, length-set}
+use lib.Seq.{sets}
 use borrow.Author.Needs.{needs}
-use Rattle.laws.specs.Range.{one-if}
-use Rattle.laws.specs.Room.{laid}
-use Rattle.laws.proofs.Values.{laid-none, laid-more}
+use Rattle.laws.specs.Range.{one-if, joinTo}
+use Rattle.laws.specs.Values.{listTo}
+use Rattle.laws.proofs.Values.{sets-more}
 use Rattle.grid.specs.Grid.{isAboveGrey}
 use Rattle.masks.specs.Flags.{flagsFrom}
 use Rattle.masks.proofs.flag_samples.Statement.{statement}
 use Rattle.masks.proofs.flag_samples.Tie as tie
 
 abbrev Inv-loop : tie.InvT-loop
-Inv-loop samples start many grey flags₀ i₀ flags i = (length flags ≡ length flags₀) × (i ≤ many) × (flags ≡ laid (flagsFrom grey samples start i) flags₀)
+Inv-loop samples start many grey at flags₀ i₀ flags i = (length flags ≡ length flags₀) × (i ≤ many) × (flags ≡ sets flags₀ at (flagsFrom grey samples start i))
 
 abbrev μ-loop : tie.MeasureT-loop
-μ-loop samples start many grey flags₀ i₀ flags i = many - i
+μ-loop samples start many grey at flags₀ i₀ flags i = many - i
 
 loop-holds : tie.Need-loop-holds Inv-loop μ-loop
-unfolding flagsFrom
-loop-holds c = (refl, omega arith, sym (laid-none _ (c .before .before .args .flags .now)))
+unfolding flagsFrom listTo joinTo
+loop-holds c = (refl, omega arith, refl)
 
 add-above-flag : tie.Need-add-above-flag Inv-loop μ-loop
 add-above-flag c = search needs
@@ -34,6 +35,9 @@ shared-slice-read-above-flag c = search needs
 
 above-flag-requires : tie.Need-above-flag-requires Inv-loop μ-loop
 above-flag-requires c κs = search needs
+
+add-flags : tie.Need-add-flags Inv-loop μ-loop
+add-flags c = search needs
 
 slice-write-flags : tie.Need-slice-write-flags Inv-loop μ-loop
 slice-write-flags c = search needs
@@ -52,7 +56,7 @@ loop-again c =
     let flag : ℕ → ℕ = λ i. one-if (leb (a .grey) (getD (a .samples .now) (a .start + i) 0)) in (
       simp length-set (l .inv .0),
       omega arith,
-      rw (l .inv .2, c .above-flag .ensures) (laid-more (l .i) flag (a .flags .now) (omega (arith, l .inv .0))),
+      rw (l .inv .2, c .above-flag .ensures) (sets-more (l .i) flag (a .flags .now) (a .at)),
     )
 
 same-length : tie.Need-same-length Inv-loop μ-loop
@@ -75,6 +79,7 @@ flag-samples-spec =
     mul-above-flag
     shared-slice-read-above-flag
     above-flag-requires
+    add-flags
     slice-write-flags
     add-i
     loop-less

@@ -4,6 +4,7 @@ use Prim.Native.Nat.{ℕ, _+_, _*_, _-_, _<_, _≤_}
 use native.Mathlib.Omega.{arith}
 use lib.ListN.{length}
 use denote.Ref.{now}
+use borrow.Author.Needs.{needs}
 use Rattle.grid.specs.Grid.{axes, isAboveGrey}
 use Rattle.grid.specs.Point.{pointEdges}
 use Rattle.rows.specs.declared.Sides.{Sides}
@@ -17,12 +18,12 @@ use Rattle.pointplaces.proofs.place.Statement.{statement}
 use Rattle.pointplaces.proofs.place.Tie as tie
 
 abbrev Inv-loop : tie.InvT-loop
-Inv-loop nx ny nz grey samples masks points₀ edges₀ marks₀ sides n₀ z₀ points edges marks n z = (z ≤ nz)
+Inv-loop nx ny nz grey samples masks points₀ edges₀ marks₀ sides kept n₀ z₀ points edges marks n z = (z ≤ nz)
     × SameLengths (pointRooms points₀ edges₀ marks₀) (pointRooms points edges marks)
     × Placed sides grey samples masks (3 * layerFirst sides 0) (3 * layerFirst sides z) 0 n (pointRooms points₀ edges₀ marks₀) (pointRooms points edges marks)
 
 abbrev μ-loop : tie.MeasureT-loop
-μ-loop nx ny nz grey samples masks points₀ edges₀ marks₀ sides n₀ z₀ points edges marks n z = nz - z
+μ-loop nx ny nz grey samples masks points₀ edges₀ marks₀ sides kept n₀ z₀ points edges marks n z = nz - z
 
 abbrev start : tie.After-last-mask Inv-loop μ-loop → tie.Start Inv-loop μ-loop
 start c = c .before .before .before .before .before .before .before
@@ -44,7 +45,7 @@ loop-rooms l = pointRooms (l .loop .points) (l .loop .edges) (l .loop .marks)
 
 abbrev past-layer : tie.After-place-layer Inv-loop μ-loop → PointRooms
 past-layer c =
-    let last = c .place-layer .last .1 .1 .1 .1 .1 .1 in
+    let last = c .place-layer .last .1 .1 .1 .1 .1 .1 .1 in
     pointRooms (last .0) (last .1 .0) (last .1 .1 .0)
 
 -- the samples, the words of their rows, and the room, as the layers need them
@@ -84,14 +85,17 @@ loop-holds c =
     let a = start c .args in
     (omega arith, record { points = refl; edges = refl; marks = refl }, placed-none (sides c) (a .grey) (now (a .samples)) (now (a .masks)) (3 * layerFirst (sides c) 0) 0 (first-rooms c))
 
+slice-aggregate-place-layer : tie.Need-slice-aggregate-place-layer Inv-loop μ-loop
+slice-aggregate-place-layer c = search needs
+
 place-layer-requires : tie.Need-place-layer-requires Inv-loop μ-loop
 place-layer-requires c κs =
-    let l = c .before .before .before .before in
+    let l = c .before .before .before .before .before in
     let f = l .before in
     let a = start f .args in
     let s = sides f in
     let z = l .loop .z in
-    let there = c .before .before .before .loop-test .taken in
+    let there = c .before .before .before .before .loop-test .taken in
     let so = l .loop .inv .2 in
     let within =
     number-within s (now (a .masks)) (3 * layerFirst s 0) (3 * layerFirst s z) (3 * layerFirst s (z + 1)) (3 * layerFirst s (a .nz)) 0 (l .loop .n) (so .rising)
@@ -102,17 +106,17 @@ place-layer-requires c κs =
 
 add-z : tie.Need-add-z Inv-loop μ-loop
 add-z c =
-    let t = c .before .before .before .before .before .before .before .before .before .before in
+    let t = c .before .before .before .before .before .before .before .before .before .before .before in
     omega (arith, start (t .before .before) .pre .0 .most-z, t .loop-test .taken)
 
 loop-less : tie.Need-loop-less Inv-loop μ-loop
-loop-less c = omega (arith, c .before .before .before .before .before .before .before .before .before .before .loop-test .taken)
+loop-less c = omega (arith, c .before .before .before .before .before .before .before .before .before .before .before .loop-test .taken)
 
 loop-again : tie.Need-loop-again Inv-loop μ-loop
 loop-again c =
     let done = c .before .before .before .before .before .before in
-    let kept = done .place-layer .kept .1 .1 .1 .1 .1 .1 in
-    let t = done .before .before .before .before in
+    let kept = done .place-layer .kept .1 .1 .1 .1 .1 .1 .1 in
+    let t = done .before .before .before .before .before in
     let l = t .before in
     let f = l .before in
     let a = start f .args in
@@ -162,6 +166,7 @@ place-spec =
     row-words-requires
     last-mask-requires
     loop-holds
+    slice-aggregate-place-layer
     place-layer-requires
     add-z
     loop-less

@@ -5,6 +5,7 @@ use Prim.Native.Nat.{_+_, _*_, _-_, _<_}
 use native.Mathlib.Omega.{arith}
 use lib.ListN.{length}
 use denote.Ref.{now}
+use Rattle.grid.specs.Work.{lentSamples}
 use Rattle.rows.specs.Rows.{Stands, ownSamples, layerFirst}
 use Rattle.edgepoints.specs.EdgePoint.{PointRooms, pointRooms}
 use Rattle.pointplaces.specs.Places.{Placed}
@@ -14,16 +15,16 @@ use Rattle.pointplaces.proofs.places.place_layer.Statement.{statement}
 use Rattle.pointplaces.proofs.places.place_layer.Tie as tie
 
 abbrev Inv-loop : tie.InvT-loop
-Inv-loop sides grey z from samples masks points₀ edges₀ marks₀ n₀ at₀ points edges marks n at = Stands sides z at
+Inv-loop sides grey z from kept samples masks points₀ edges₀ marks₀ n₀ at₀ points edges marks n at = Stands sides z at
     × SameLengths (pointRooms points₀ edges₀ marks₀) (pointRooms points edges marks)
-    × Placed sides grey samples masks (3 * layerFirst sides z) (3 * at .s) from n (pointRooms points₀ edges₀ marks₀) (pointRooms points edges marks)
+    × Placed sides grey (lentSamples kept samples) masks (3 * layerFirst sides z) (3 * at .s) from n (pointRooms points₀ edges₀ marks₀) (pointRooms points edges marks)
 
 abbrev μ-loop : tie.MeasureT-loop
-μ-loop sides grey z from samples masks points₀ edges₀ marks₀ n₀ at₀ points edges marks n at = length masks - at .word
+μ-loop sides grey z from kept samples masks points₀ edges₀ marks₀ n₀ at₀ points edges marks n at = length masks - at .word
 
 -- the start, from the loop's head
 abbrev start : tie.At-loop Inv-loop μ-loop → tie.Start Inv-loop μ-loop
-start l = l .before .before .before .before .before .before .before
+start l = l .before .before .before .before .before .before .before .before
 
 -- the loop's head, from a turn and from its end
 abbrev head : tie.Then1 Inv-loop μ-loop → tie.At-loop Inv-loop μ-loop
@@ -41,7 +42,7 @@ loop-rooms l = pointRooms (l .loop .points) (l .loop .edges) (l .loop .marks)
 
 abbrev past-stretch : tie.After-place-stretch Inv-loop μ-loop → PointRooms
 past-stretch c =
-    let last = c .place-stretch .last .1 .1 .1 .1 .1 .1 .1 in
+    let last = c .place-stretch .last .1 .1 .1 .1 .1 .1 .1 .1 in
     pointRooms (last .0) (last .1 .0) (last .1 .1 .0)
 
 -- there is a next stretch
@@ -50,17 +51,17 @@ row-there c = omega arith
 
 first-requires : tie.Need-first-requires Inv-loop μ-loop
 first-requires c κs =
-    let pre = c .before .before .before .before .before .pre in
+    let pre = c .before .before .before .before .before .before .pre in
     (pre .0 .ready .fit, (pre .0 .ready .words, (pre .0 .ready .from, pre .1 .0)))
 
 loop-holds : tie.Need-loop-holds Inv-loop μ-loop
 loop-holds c =
-    let s = c .before .before .before .before .before .before in
+    let s = c .before .before .before .before .before .before .before in
     let a = s .args in
     rw (c .first .ensures) (
       stands-first (a .sides) (s .pre .0 .ready .fit) (s .pre .0 .ready .words) (a .z) (s .pre .0 .ready .from),
       record { points = refl; edges = refl; marks = refl },
-      placed-none (a .sides) (a .grey) (now (a .samples)) (now (a .masks)) (3 * layerFirst (a .sides) (a .z)) (a .from) (first-rooms s),
+      placed-none (a .sides) (a .grey) (lentSamples (now (a .kept)) (now (a .samples))) (now (a .masks)) (3 * layerFirst (a .sides) (a .z)) (a .from) (first-rooms s),
     )
 
 place-stretch-requires : tie.Need-place-stretch-requires Inv-loop μ-loop
@@ -97,7 +98,7 @@ loop-less c =
 loop-again : tie.Need-loop-again Inv-loop μ-loop
 loop-again c =
     let done = c .before .before .before .before .before .before .before in
-    let kept = done .place-stretch .kept .1 .1 .1 .1 .1 .1 .1 in
+    let kept = done .place-stretch .kept .1 .1 .1 .1 .1 .1 .1 .1 in
     let t = done .before .before .before .before in
     let l = head t in
     let a = start l .args in
@@ -105,7 +106,7 @@ loop-again c =
     rw (c .next .ensures) (
       stands-next (a .sides) (a .z) (l .loop .at) (l .loop .inv .0) (row-there t),
       record { points = kept .0 ∙ same .points; edges = kept .1 .0 ∙ same .edges; marks = kept .1 .1 .0 ∙ same .marks },
-      placed-on (a .sides) (a .grey) (now (a .samples)) (now (a .masks)) {t = past-stretch done} (l .loop .inv .2) (done .place-stretch .ensures),
+      placed-on (a .sides) (a .grey) (lentSamples (now (a .kept)) (now (a .samples))) (now (a .masks)) {t = past-stretch done} (l .loop .inv .2) (done .place-stretch .ensures),
     )
 
 same-length : tie.Need-same-length Inv-loop μ-loop
@@ -122,7 +123,7 @@ returns c =
     let l = end c in
     let a = start l .args in
     subst
-    (λ s. Placed (a .sides) (a .grey) (now (a .samples)) (now (a .masks)) (3 * layerFirst (a .sides) (a .z)) (3 * s) (a .from) (l .loop .n) (first-rooms (start l)) (loop-rooms l))
+    (λ s. Placed (a .sides) (a .grey) (lentSamples (now (a .kept)) (now (a .samples))) (now (a .masks)) (3 * layerFirst (a .sides) (a .z)) (3 * s) (a .from) (l .loop .n) (first-rooms (start l)) (loop-rooms l))
     (layer-end (a .sides) (a .z) (l .loop .at) (l .loop .inv .0) (omega arith))
     (l .loop .inv .2)
 

@@ -4,6 +4,7 @@ use mathlib.Core.Bool.{true}
 use native.Mathlib.Omega.{arith}
 use denote.Ref.{now}
 use borrow.Author.Needs.{needs}
+use Rattle.grid.specs.Work.{lentSamples}
 use Rattle.rows.specs.Rows.{sizeOf, nextNumber}
 use Rattle.edgepoints.specs.EdgePoint.{PointRooms, pointRooms, Placeable}
 use Rattle.pointplaces.proofs.Placing.{SameLengths, still-placeable, sample-steps}
@@ -12,7 +13,7 @@ use Rattle.pointplaces.proofs.places.place_sample.Tie as tie
 
 -- the places before each edge, from the last back to the start
 abbrev before-x : tie.After-place-edge → tie.Start
-before-x c = c .before .before .before .before .before .before .before .before
+before-x c = c .before .before .before .before .before .before .before .before .before
 
 abbrev before-y : tie.After-place-edge2 → tie.After-place-edge
 before-y c = c .before .before .before .before .before .before .before .before .before .before
@@ -26,47 +27,47 @@ first-rooms c = pointRooms (now (c .args .points)) (now (c .args .edges)) (now (
 
 abbrev past-x : tie.After-place-edge → PointRooms
 past-x c =
-    let last = c .place-edge .last .1 .1 .1 .1 .1 .1 .1 in
+    let last = c .place-edge .last .1 .1 .1 .1 .1 .1 .1 .1 in
     pointRooms (last .0) (last .1 .0) (last .1 .1 .0)
 
 abbrev past-y : tie.After-place-edge2 → PointRooms
 past-y c =
-    let last = c .place-edge2 .last .1 .1 .1 .1 .1 .1 .1 in
+    let last = c .place-edge2 .last .1 .1 .1 .1 .1 .1 .1 .1 in
     pointRooms (last .0) (last .1 .0) (last .1 .1 .0)
 
 abbrev past-z : tie.After-place-edge3 → PointRooms
 past-z c =
-    let last = c .place-edge3 .last .1 .1 .1 .1 .1 .1 .1 in
+    let last = c .place-edge3 .last .1 .1 .1 .1 .1 .1 .1 .1 in
     pointRooms (last .0) (last .1 .0) (last .1 .1 .0)
 
 same-x : (c : tie.After-place-edge) → SameLengths (first-rooms (before-x c)) (past-x c)
 same-x c =
-    let kept = c .place-edge .kept .1 .1 .1 .1 .1 .1 .1 in
+    let kept = c .place-edge .kept .1 .1 .1 .1 .1 .1 .1 .1 in
     record { points = kept .0; edges = kept .1 .0; marks = kept .1 .1 .0 }
 
 same-y : (c : tie.After-place-edge2) → SameLengths (past-x (before-y c)) (past-y c)
 same-y c =
-    let kept = c .place-edge2 .kept .1 .1 .1 .1 .1 .1 .1 in
+    let kept = c .place-edge2 .kept .1 .1 .1 .1 .1 .1 .1 .1 in
     record { points = kept .0; edges = kept .1 .0; marks = kept .1 .1 .0 }
 
 -- the points of the later edges can still be placed
 able-y : (c : tie.After-place-edge) → let a = before-x c .args in
-    a .cuts .y ≡ true → Placeable (sizeOf (a .sides)) (now (a .samples)) (a .at .place) 1 (c .place-edge .result) (past-x c)
+    a .cuts .y ≡ true → Placeable (sizeOf (a .sides)) (lentSamples (now (a .kept)) (now (a .samples))) (a .at .place) 1 (c .place-edge .result) (past-x c)
 able-y c cut =
     let s = before-x c in
     let a = s .args in
-    still-placeable (sizeOf (a .sides)) (now (a .samples)) (a .at .place) 1 (nextNumber (a .cuts .x) (a .from)) (c .place-edge .result) (first-rooms s) (past-x c) (same-x c)
+    still-placeable (sizeOf (a .sides)) (lentSamples (now (a .kept)) (now (a .samples))) (a .at .place) 1 (nextNumber (a .cuts .x) (a .from)) (c .place-edge .result) (first-rooms s) (past-x c) (same-x c)
     (c .place-edge .ensures .0)
     (s .pre .1 .along-y cut)
 
 able-z : (c : tie.After-place-edge2) → let a = before-x (before-y c) .args in
-    a .cuts .z ≡ true → Placeable (sizeOf (a .sides)) (now (a .samples)) (a .at .place) 2 (c .place-edge2 .result) (past-y c)
+    a .cuts .z ≡ true → Placeable (sizeOf (a .sides)) (lentSamples (now (a .kept)) (now (a .samples))) (a .at .place) 2 (c .place-edge2 .result) (past-y c)
 able-z c cut =
     let x = before-y c in
     let s = before-x x in
     let a = s .args in
     let size = sizeOf (a .sides) in
-    let samples = now (a .samples) in
+    let samples = lentSamples (now (a .kept)) (now (a .samples)) in
     let past-one =
     still-placeable size samples (a .at .place) 2 (nextNumber (a .cuts .y) (nextNumber (a .cuts .x) (a .from))) (nextNumber (a .cuts .y) (x .place-edge .result)) (first-rooms s) (past-x x) (same-x x)
     (ap (nextNumber (a .cuts .y)) (x .place-edge .ensures .0))
@@ -104,7 +105,7 @@ returns c =
     let x = before-y y in
     let s = before-x x in
     let a = s .args in
-    sample-steps (a .sides) (a .grey) (now (a .samples)) (a .at .s) (a .from) (a .cuts) (first-rooms s)
+    sample-steps (a .sides) (a .grey) (lentSamples (now (a .kept)) (now (a .samples))) (a .at .s) (a .from) (a .cuts) (first-rooms s)
     (x .place-edge .result)
     (y .place-edge2 .result)
     (z .place-edge3 .result)

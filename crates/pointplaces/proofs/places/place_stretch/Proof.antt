@@ -1,6 +1,7 @@
 -- `pointplaces::places::place_stretch` meets its contract. The invariant: so many of the stretch's own samples are passed, the points on their edges are placed,
 -- and the busy word has the bits of those left. It falls in each turn. Assumes nothing.
 use mathlib.Core.Path.{_≡_, refl, _∙_}
+use mathlib.Core.List.{List}
 use Prim.Native.Nat.{ℕ, _+_, _*_, _-_, _^_, _<_, _≤_}
 use native.Mathlib.Nat.{mul-le-mul}
 use native.Mathlib.Omega.{arith}
@@ -9,6 +10,7 @@ use denote.Ref.{now}
 use Rattle.laws.specs.Bits.{wordBits}
 use Rattle.laws.proofs.Scan.{Left, left-all}
 use Rattle.grid.specs.Limits.{mostSide}
+use Rattle.grid.specs.Work.{lentSamples}
 use Rattle.rows.specs.Rows.{firstX, ownSamples, layerFirst}
 use Rattle.edgepoints.specs.EdgePoint.{PointRooms, pointRooms}
 use Rattle.pointplaces.specs.Places.{Placed}
@@ -20,22 +22,26 @@ use Rattle.pointplaces.proofs.places.place_stretch.Statement.{statement
 use Rattle.pointplaces.proofs.places.place_stretch.Tie as tie
 
 abbrev Inv-loop : tie.InvT-loop
-Inv-loop sides grey at z from samples masks points₀ edges₀ marks₀ crossed before place busy₀ n₀ points edges marks busy n = (x : ℕ)
+Inv-loop sides grey at z from kept samples masks points₀ edges₀ marks₀ crossed before place busy₀ n₀ points edges marks busy n = (x : ℕ)
     × (x ≤ ownSamples (at .left))
     × (busy < 2 ^ 64)
     × Left (busyOf crossed) x busy
     × SameLengths (pointRooms points₀ edges₀ marks₀) (pointRooms points edges marks)
-    × Placed sides grey samples masks (3 * at .s) (3 * (at .s + x)) from n (pointRooms points₀ edges₀ marks₀) (pointRooms points edges marks)
+    × Placed sides grey (lentSamples kept samples) masks (3 * at .s) (3 * (at .s + x)) from n (pointRooms points₀ edges₀ marks₀) (pointRooms points edges marks)
 
 abbrev μ-loop : tie.MeasureT-loop
-μ-loop sides grey at z from samples masks points₀ edges₀ marks₀ crossed before place busy₀ n₀ points edges marks busy n = busy
+μ-loop sides grey at z from kept samples masks points₀ edges₀ marks₀ crossed before place busy₀ n₀ points edges marks busy n = busy
 
 -- the start, from the call of `crossed_at`, and this call, from the loop's head
 abbrev start : tie.After-crossed-at Inv-loop μ-loop → tie.Start Inv-loop μ-loop
-start c = c .before .before .before .before .before .before
+start c = c .before .before .before .before .before .before .before
 
 abbrev crossed-of : tie.At-loop Inv-loop μ-loop → tie.After-crossed-at Inv-loop μ-loop
 crossed-of l = l .before .before .before .before .before .before .before .before
+
+-- the samples lent
+abbrev samples-lent : tie.Start Inv-loop μ-loop → List ℕ
+samples-lent s = lentSamples (now (s .args .kept)) (now (s .args .samples))
 
 -- the rooms as they come, at the loop's head, and past a sample
 abbrev first-rooms : tie.Start Inv-loop μ-loop → PointRooms
@@ -46,12 +52,12 @@ loop-rooms l = pointRooms (l .loop .points) (l .loop .edges) (l .loop .marks)
 
 abbrev past-sample : tie.After-place-sample Inv-loop μ-loop → PointRooms
 past-sample c =
-    let last = c .place-sample .last .1 .1 .1 .1 .1 .1 in
+    let last = c .place-sample .last .1 .1 .1 .1 .1 .1 .1 in
     pointRooms (last .0) (last .1 .0) (last .1 .1 .0)
 
 crossed-at-requires : tie.Need-crossed-at-requires Inv-loop μ-loop
 crossed-at-requires c κs =
-    let pre = c .before .before .before .before .before .pre in
+    let pre = c .before .before .before .before .before .before .pre in
     (pre .0 .ready, (pre .1 .0, (pre .1 .1 .0, pre .1 .1 .1 .0)))
 
 sub-before : tie.Need-sub-before Inv-loop μ-loop
@@ -89,7 +95,7 @@ loop-holds c =
       busy-small (q .crossed-at .result) (omega (arith, words)) (omega (arith, words)) (omega (arith, words)),
       left-all (busyOf (q .crossed-at .result)),
       record { points = refl; edges = refl; marks = refl },
-      rw none (placed-none (a .sides) (a .grey) (now (a .samples)) (now (a .masks)) (3 * a .at .s) (a .from) (first-rooms s)),
+      rw none (placed-none (a .sides) (a .grey) (samples-lent s) (now (a .masks)) (3 * a .at .s) (a .from) (first-rooms s)),
     )
 
 -- the next busy sample; the points on the edges before its own are placed
@@ -116,12 +122,12 @@ placed-there : (c : tie.In-loop Inv-loop μ-loop)
     → let l = c .before in
     let s = start (crossed-of l) in
     let a = s .args in
-    Placed (a .sides) (a .grey) (now (a .samples)) (now (a .masks)) (3 * a .at .s) (3 * (a .at .s + found-at l)) (a .from) (l .loop .n) (first-rooms s) (loop-rooms l)
+    Placed (a .sides) (a .grey) (samples-lent s) (now (a .masks)) (3 * a .at .s) (3 * (a .at .s + found-at l)) (a .from) (l .loop .n) (first-rooms s) (loop-rooms l)
 placed-there c =
     let l = c .before in
     let s = start (crossed-of l) in
     let a = s .args in
-    samples-passed (a .sides) (a .grey) (now (a .samples)) (now (a .masks)) (3 * a .at .s) (a .at .s) (l .loop .inv .0) (found-at l) (a .from) (l .loop .n) (first-rooms s) (loop-rooms l)
+    samples-passed (a .sides) (a .grey) (samples-lent s) (now (a .masks)) (3 * a .at .s) (a .at .s) (l .loop .inv .0) (found-at l) (a .from) (l .loop .n) (first-rooms s) (loop-rooms l)
     (next-busy c .from)
     (l .loop .inv .5)
     (next-busy c .uncut)
@@ -141,11 +147,6 @@ cuts-tested c =
 cast-along : tie.Need-cast-along Inv-loop μ-loop
 cast-along c = omega (arith, next-busy c .small)
 
-add-t24 : tie.Need-add-t24 Inv-loop μ-loop
-add-t24 c =
-    let t = c .before in
-    omega (arith, next-busy t .small, small-sample (start (crossed-of (t .before))))
-
 add-t25 : tie.Need-add-t25 Inv-loop μ-loop
 add-t25 c =
     let t = c .before in
@@ -153,6 +154,11 @@ add-t25 c =
 
 add-t26 : tie.Need-add-t26 Inv-loop μ-loop
 add-t26 c =
+    let t = c .before in
+    omega (arith, next-busy t .small, small-sample (start (crossed-of (t .before))))
+
+add-t27 : tie.Need-add-t27 Inv-loop μ-loop
+add-t27 c =
     let t = c .before in
     omega (arith, next-busy t .small, start (crossed-of (t .before)) .pre .0 .ready .fit .most-x)
 
@@ -175,7 +181,7 @@ place-sample-requires c κs =
     let own = ownSamples (a .at .left) in
     let fits = room-kept (l .loop .inv .4) (s .pre .1 .1 .1 .1) in (
       record { fit = s .pre .0 .ready .fit; below-x = inside; below-y = s .pre .1 .1 .0; below-z = s .pre .1 .1 .1 .0; site = site; lent = lent },
-      sample-placeable (a .sides) (a .z) (a .grey) (now (a .samples)) (now (a .masks)) (s .pre .0) x (a .at .y) (stands .up) inside (s .pre .1 .1 .0) (s .pre .1 .1 .1 .0) (stands .layer)
+      sample-placeable (a .sides) (a .z) (a .grey) (samples-lent s) (now (a .masks)) (s .pre .0) x (a .at .y) (stands .up) inside (s .pre .1 .1 .0) (s .pre .1 .1 .1 .0) (stands .layer)
           (3 * a .at .s)
           (3 * (a .at .s + own))
           (a .from)
@@ -202,15 +208,16 @@ loop-less c = next-busy (c .before .before .before .before .before .before .befo
 loop-again : tie.Need-loop-again Inv-loop μ-loop
 loop-again c =
     let done = c .before .before .before .before .before .before in
-    let kept = done .place-sample .kept .1 .1 .1 .1 .1 .1 in
+    let kept = done .place-sample .kept .1 .1 .1 .1 .1 .1 .1 in
     let cuts = done .before .before .before .before in
     let t = cuts .before .before in
     let l = t .before in
-    let a = start (crossed-of l) .args in
+    let s = start (crossed-of l) in
+    let a = s .args in
     let same = l .loop .inv .4 in
     let past : 3 * (a .at .s + (found-at l + 1)) ≡ 3 * (a .at .s + found-at l + 1) = omega arith in
     let here =
-    sample-passed (a .sides) (a .grey) (now (a .samples)) (now (a .masks)) (a .at .s + found-at l) (l .loop .n) (done .place-sample .result) (cuts .cuts .result)
+    sample-passed (a .sides) (a .grey) (samples-lent s) (now (a .masks)) (a .at .s + found-at l) (l .loop .n) (done .place-sample .result) (cuts .cuts .result)
     (loop-rooms l)
     (past-sample done)
     (cuts-tested cuts)
@@ -220,7 +227,7 @@ loop-again c =
       omega (arith, next-busy t .falls, l .loop .inv .2),
       next-busy t .left,
       record { points = kept .0 ∙ same .points; edges = kept .1 .0 ∙ same .edges; marks = kept .1 .1 .0 ∙ same .marks },
-      rw past (placed-on (a .sides) (a .grey) (now (a .samples)) (now (a .masks)) (placed-there t) here),
+      rw past (placed-on (a .sides) (a .grey) (samples-lent s) (now (a .masks)) (placed-there t) here),
     )
 
 same-length : tie.Need-same-length Inv-loop μ-loop
@@ -239,7 +246,7 @@ returns c =
     let s = start q in
     let a = s .args in
     let own = ownSamples (a .at .left) in
-    samples-passed (a .sides) (a .grey) (now (a .samples)) (now (a .masks)) (3 * a .at .s) (a .at .s) (l .loop .inv .0) own (a .from) (l .loop .n) (first-rooms s) (loop-rooms l)
+    samples-passed (a .sides) (a .grey) (samples-lent s) (now (a .masks)) (3 * a .at .s) (a .at .s) (l .loop .inv .0) own (a .from) (l .loop .n) (first-rooms s) (loop-rooms l)
     (l .loop .inv .1)
     (l .loop .inv .5)
     (rest-uncut (a .sides) (now (a .masks)) (a .at .s) own (q .crossed-at .result) (q .crossed-at .ensures) (l .loop .inv .0) (l .loop .busy) (l .loop .inv .3) (c .loop-test .left))
@@ -257,9 +264,9 @@ place-stretch-spec =
     sub-place
     loop-holds
     cast-along
-    add-t24
     add-t25
     add-t26
+    add-t27
     cuts-requires
     place-sample-requires
     sub-busy
