@@ -62,12 +62,12 @@ fn cost<C: Call>(blocks: &[Subject], runs: usize) -> Result<f64, Failure> {
     Ok(time / units as f64)
 }
 
-/// A row; answers the time of the library's call on the whole casting.
+/// A row.
 fn row<C: Call>(
     casting: &Casting,
     asked: &Asked,
     beside: &BTreeMap<String, f64>,
-) -> Result<f64, Failure> {
+) -> Result<(), Failure> {
     let whole = &casting.whole;
     let at16 = cost::<C>(&casting.at16, asked.runs)?;
     let at32 = cost::<C>(&casting.at32, asked.runs)?;
@@ -90,7 +90,7 @@ fn row<C: Call>(
             &format!("{:.1}", memory::peak::<C>(whole)?),
         ],
     );
-    Ok(library)
+    Ok(())
 }
 
 /// The seven rows of a casting; answers the time of its layers as a part of the extraction's, and how many triangles VTK's mesh has, where its program is named.
@@ -99,14 +99,15 @@ fn rows(casting: &Casting, asked: &Asked) -> Result<(f64, Option<f64>), Failure>
         Some(program) => vtk::said(program, &casting.whole.samples, asked.runs)?,
         None => BTreeMap::new(),
     };
-    let whole = row::<Extraction>(casting, asked, &beside)?;
-    let layers = row::<Layers>(casting, asked, &beside)?;
+    row::<Extraction>(casting, asked, &beside)?;
+    row::<Layers>(casting, asked, &beside)?;
     row::<Smoothing>(casting, asked, &beside)?;
     row::<Shells>(casting, asked, &beside)?;
     row::<Curvature>(casting, asked, &beside)?;
     row::<Writing>(casting, asked, &beside)?;
     row::<Reading>(casting, asked, &beside)?;
-    Ok((layers / whole, beside.get("triangles").copied()))
+    let part = times::part::<Layers, Extraction>(&casting.whole, asked.runs)?;
+    Ok((part, beside.get("triangles").copied()))
 }
 
 /// What the columns are, in sentences.
@@ -150,7 +151,7 @@ pub fn print(asked: &Asked) -> Result<(), Failure> {
     }
     println!();
     println!(
-        "Layer by layer the whole casting takes as a part of the extraction's time: {}.",
+        "Layer by layer the whole casting takes as a part of the extraction's time, both timed in turns: {}.",
         parts.join(", ")
     );
     if let [few, more, most] = counts.as_slice() {

@@ -10,6 +10,9 @@ use crate::Failure;
 /// The least time of one reading of the clock, in nanoseconds: shorter jobs are timed many at once.
 const LEAST: f64 = 100_000.0;
 
+/// How often two calls take turns.
+const TURNS: usize = 11;
+
 /// The nanoseconds of so many jobs.
 fn time(jobs: usize, job: &mut impl FnMut()) -> f64 {
     let start = Instant::now();
@@ -19,15 +22,20 @@ fn time(jobs: usize, job: &mut impl FnMut()) -> f64 {
     start.elapsed().as_secs_f64() * 1e9
 }
 
+fn median(mut numbers: Vec<f64>) -> f64 {
+    numbers.sort_by(f64::total_cmp);
+    numbers[numbers.len() / 2]
+}
+
 /// The median over the runs of the nanoseconds of one job.
-fn median(runs: usize, mut job: impl FnMut()) -> f64 {
+fn typical(runs: usize, mut job: impl FnMut()) -> f64 {
     let once = time(1, &mut job);
     let jobs = (LEAST / once).ceil().clamp(1.0, 10_000.0) as usize;
-    let mut times: Vec<f64> = (0..runs)
-        .map(|_| time(jobs, &mut job) / jobs as f64)
-        .collect();
-    times.sort_by(f64::total_cmp);
-    times[runs / 2]
+    median(
+        (0..runs)
+            .map(|_| time(jobs, &mut job) / jobs as f64)
+            .collect(),
+    )
 }
 
 /// Makes a call on both sides, and fails unless they leave the same. Both rooms are touched by this.
@@ -39,14 +47,23 @@ pub fn compared<C: Call>(on: &Subject) -> Result<C, Failure> {
 
 /// The nanoseconds of the library's call.
 pub fn library<C: Call>(rooms: &mut C, on: &Subject, runs: usize) -> f64 {
-    median(C::runs(runs), || {
+    typical(C::runs(runs), || {
         black_box(rooms.library(on));
     })
 }
 
 /// The nanoseconds of the reference's call.
 pub fn reference<C: Call>(rooms: &mut C, on: &Subject, runs: usize) -> f64 {
-    median(C::runs(runs), || {
+    typical(C::runs(runs), || {
         black_box(rooms.reference(on));
     })
+}
+
+/// The time of one call of the library as a part of another's. They are timed in turns of some runs each, so that other work on the machine does not slow one of them alone; the median
+/// over the turns.
+pub fn part<One: Call, Other: Call>(on: &Subject, runs: usize) -> Result<f64, Failure> {
+    let (mut one, mut other) = (compared::<One>(on)?, compared::<Other>(on)?);
+    let each = runs.div_ceil(TURNS);
+    let parts = (0..TURNS).map(|_| library(&mut one, on, each) / library(&mut other, on, each));
+    Ok(median(parts.collect()))
 }
