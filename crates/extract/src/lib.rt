@@ -69,8 +69,8 @@ fn measured(
         ⌜ Measures cubes nx ny nz grey (now (samples .entry)) before (left (r .number) (r .points) (r .triangles) after) ⌝ }
 {
     let mut masks = [0u64; MOST_WORDS];
-    let kept = [0u32; 0];
-    masks::fill(&kept, samples, nx, ny * nz, grey, &mut masks);
+    let none_kept = [0u32; 0];
+    masks::fill(&none_kept, samples, nx, ny * nz, grey, &mut masks);
     let found = pointnumbers::number(nx, ny, nz, &masks, work);
     let room = rooms::least(points.len() / 3, rooms::least(edges.len(), marks.len()));
     if exceeds(found, MOST_POINTS, room) {

@@ -238,8 +238,8 @@ fn hand_last(
     }
     let past = KEPT_AT + sides.nx * sides.ny;
     let kept = &state[KEPT_AT..past];
-    let none = [0u16; 0];
-    layerparts::hand_points(sides, grey, kept, &none, masks, points, edges, marks);
+    let none_new = [0u16; 0];
+    layerparts::hand_points(sides, grey, kept, &none_new, masks, points, edges, marks);
     layerstate::write_closed(found, state);
     Closed {
         number: 0,
@@ -268,9 +268,9 @@ fn close_over(
     let nx = sides.nx;
     let past = KEPT_AT + nx * sides.ny;
     let kept = &state[KEPT_AT..past];
-    let none = [0u16; 0];
+    let none_new = [0u16; 0];
     let mut masks = [0u64; PAIR_WORDS];
-    masks::fill(kept, &none, nx, sides.ny, grey, &mut masks);
+    masks::fill(kept, &none_new, nx, sides.ny, grey, &mut masks);
     hand_last(head, sides, grey, &masks, state, points, edges, marks)
 }
 

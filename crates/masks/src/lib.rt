@@ -87,7 +87,7 @@ fn flag_samples(samples: &[u16], start: usize, many: usize, grey: u16, at: usize
     }
 }
 
-// Flags so many of the samples lent, from `start` on.
+// Flags so many of the samples lent, from `start` on: kept ones, others, or the last kept ones and the others' first.
 fn flag_lent(kept: &[u32], samples: &[u16], start: usize, many: usize, grey: u16, flags: &mut [u8])
     requires { ⌜ start + many ≤ length (lentSamples (now kept) (now samples)) ⌝ }
     requires { ⌜ many ≤ length (now flags) ⌝ }
@@ -209,7 +209,7 @@ fn mask_rows(
     to
 }
 
-// The words of all rows. Many rows are flagged before the first of them is gathered: what was stored just before in another width is read late.
+// The words of all rows of the samples lent. Many rows are flagged before the first of them is gathered: what was stored just before in another width is read late.
 pub fn fill(kept: &[u32], samples: &[u16], nx: usize, rows: usize, grey: u16, masks: &mut [u64])
     requires { ⌜ (2 ≤ nx) × (nx ≤ mostFlagged) × (rowWords nx * rows ≤ length (now masks)) × (length (lentSamples (now kept) (now samples)) ≡ nx * rows) ⌝ }
     ensures { λ _. ⌜ Masked nx rows grey (lentSamples (now (kept .entry)) (now (samples .entry))) (now (masks .exit)) ⌝ }

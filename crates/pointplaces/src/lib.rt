@@ -51,7 +51,7 @@ pub fn place(
         last: masks::last_mask(nx),
         below: 0,
     };
-    let kept = [0u32; 0];
+    let none_kept = [0u32; 0];
     let mut n: usize = 0;
     let mut z: usize = 0;
     while z < nz {
@@ -60,7 +60,7 @@ pub fn place(
             grey,
             z,
             n,
-            &kept,
+            &none_kept,
             samples,
             masks,
             points,

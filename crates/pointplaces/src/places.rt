@@ -1,4 +1,4 @@
-// The points' places, grid edges and marks, written to the front of their rooms, stretch by stretch.
+// The points' places, grid edges and marks, written to the front of their rooms, stretch by stretch. Samples are lent in two lists: first those that a state keeps, then the others.
 ghost use Prim.Native.Nat.{_+_, _*_, _<_};
 ghost use Rattle.grid.specs.Work.{lentSamples};
 ghost use Rattle.rows.specs.Rows.{Stands, ownSamples, layerFirst};

@@ -18,12 +18,12 @@ use Rattle.pointplaces.proofs.place.Statement.{statement}
 use Rattle.pointplaces.proofs.place.Tie as tie
 
 abbrev Inv-loop : tie.InvT-loop
-Inv-loop nx ny nz grey samples masks points₀ edges₀ marks₀ sides kept n₀ z₀ points edges marks n z = (z ≤ nz)
+Inv-loop nx ny nz grey samples masks points₀ edges₀ marks₀ sides none-kept n₀ z₀ points edges marks n z = (z ≤ nz)
     × SameLengths (pointRooms points₀ edges₀ marks₀) (pointRooms points edges marks)
     × Placed sides grey samples masks (3 * layerFirst sides 0) (3 * layerFirst sides z) 0 n (pointRooms points₀ edges₀ marks₀) (pointRooms points edges marks)
 
 abbrev μ-loop : tie.MeasureT-loop
-μ-loop nx ny nz grey samples masks points₀ edges₀ marks₀ sides kept n₀ z₀ points edges marks n z = nz - z
+μ-loop nx ny nz grey samples masks points₀ edges₀ marks₀ sides none-kept n₀ z₀ points edges marks n z = nz - z
 
 abbrev start : tie.After-last-mask Inv-loop μ-loop → tie.Start Inv-loop μ-loop
 start c = c .before .before .before .before .before .before .before
