@@ -79,7 +79,8 @@ returns-2 c =
     let all : here + rest ≡ a .many = omega (arith, is) in
     let first = flagsFrom (a .grey) (map sampleOf kept) (a .start) here in
     let others = flagsFrom (a .grey) samples 0 rest in
-    f .flag-samples2 .ensures
+    let behind : f .flag-samples2 .last .1 .1 .1 .1 .1 .0 ≡ sets (k .flag-kept .last .1 .1 .1 .1 .0) here others = f .flag-samples2 .ensures in
+    behind
     ∙ ap (λ flags. sets flags here others) (k .flag-kept .ensures)
     ∙ laid-sets (now (a .flags)) first others here (length-flags (a .grey) (map sampleOf kept) (a .start) here) (omega (arith, length-flags (a .grey) samples 0 rest, all, s .pre .1))
     ∙ ap (λ flags. laid flags (now (a .flags)))
