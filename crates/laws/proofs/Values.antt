@@ -5,13 +5,12 @@ use Prim.Native.Nat.{ℕ, zero, suc, _+_, _<_}
 use native.Mathlib.Decide.{decLt, ℕ-discrete}
 use native.Mathlib.Omega.{arith}
 use lib.ListN.{length, getD, set, drop, length-append, length-set, List·getD-append}
-use lib.Seq.{sets, getD-at, ext-getD, set-append-left, getD-set-same, getD-set-other}
+use lib.Seq.{getD-at, ext-getD, set-append-left, getD-set-same, getD-set-other}
 use Rattle.laws.specs.Range.{joinTo}
 use Rattle.laws.specs.Room.{laid}
 use Rattle.laws.specs.Values.{listTo}
 use Rattle.laws.proofs.Ranges.{join-next, join-cong, join-split, flat-join}
 use Rattle.laws.proofs.Rooms.{laid-next, laid-front, laid-whole}
-use Rattle.laws.proofs.Writes.{sets-append}
 
 module _ {A : Type 0} where
   pub list-next : (n : ℕ) (f : ℕ → A) → listTo (n + 1) f ≡ listTo n f ++ (f n ∷ [])
@@ -63,13 +62,6 @@ module _ {A : Type 0} where
 
   pub laid-at : (n i : ℕ) (f : ℕ → A) (room : List A) (d : A) → i < n → getD (laid (listTo n f) room) i d ≡ f i
   laid-at n i f room d l = laid-front (listTo n f) room i d (omega (arith, length-list n f)) ∙ list-at n i f d l
-
-  -- one more, written from a place on
-  pub sets-more : (n : ℕ) (f : ℕ → A) (room : List A) (at : ℕ) → set (sets room at (listTo n f)) (at + n) (f n) ≡ sets room at (listTo (n + 1) f)
-  sets-more n f room at =
-      ap (λ k. set (sets room at (listTo n f)) (at + k) (f n)) (sym (length-list n f))
-      ∙ sets-append room at (listTo n f) (f n ∷ [])
-      ∙ ap (sets room at) (sym (list-next n f))
 
   -- one value changed, there and nowhere else
   pub list-change : (n i : ℕ) (f g : ℕ → A) → i < n → ((k : ℕ) → (k ≡ i → ⊥) → g k ≡ f k) → set (listTo n f) i (g i) ≡ listTo n g

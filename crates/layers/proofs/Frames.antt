@@ -4,7 +4,8 @@ use mathlib.Core.List.{List, [], _++_, map, append-nil}
 use Prim.Native.Nat.{ℕ, suc, _+_, _*_, _-_, _≤_, _<_}
 use native.Mathlib.Nat.{mul-le-mul}
 use native.Mathlib.Omega.{arith}
-use lib.ListN.{length, take, drop}
+use lib.ListN.{length}
+use Rattle.laws.specs.Part.{partOf}
 use Rattle.grid.specs.Limits.{mostSide}
 use Rattle.grid.specs.Grid.{isAboveGrey}
 use Rattle.grid.specs.Work.{size, SidesFit, sampleOf, lentSamples}
@@ -27,11 +28,11 @@ pairWords = rowWords mostSide * (mostSide * 2)
 -- the kept layer is a part of the state's room, and is lent before the new one, or alone
 module _ (room : List ℕ) (each : ℕ) where
   abbrev keptPart : List ℕ
-  keptPart = take (keptAt + each - keptAt) (drop keptAt room)
+  keptPart = partOf keptAt (keptAt + each - keptAt) room
 
   part-kept : map sampleOf keptPart ≡ keptIn each room
   unfolding keptIn
-  part-kept = let long : keptAt + each - keptAt ≡ each = omega arith in ap (λ k. map sampleOf (take k (drop keptAt room))) long
+  part-kept = let long : keptAt + each - keptAt ≡ each = omega arith in ap (λ k. map sampleOf (partOf keptAt k room)) long
 
   pub pair-lent : (layer : List ℕ) → lentSamples keptPart layer ≡ keptIn each room ++ layer
   pair-lent layer = ap (λ kept. kept ++ layer) part-kept

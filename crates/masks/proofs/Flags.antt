@@ -18,6 +18,10 @@ pub flag-byte : (flags : List ℕ) → AreFlags flags → (i : ℕ) → getD fla
 unfolding flagSet
 flag-byte flags are i = sym (number-back (getD flags i 0) (are i))
 
+pub length-flags : (grey : ℕ) (samples : List ℕ) (start many : ℕ) → length (flagsFrom grey samples start many) ≡ many
+unfolding flagsFrom
+length-flags grey samples start many = length-list many _
+
 module _ (grey : ℕ) (samples : List ℕ) (start many : ℕ) (room : List ℕ) where
   abbrev flags : List ℕ
   flags = laid (flagsFrom grey samples start many) room
@@ -33,5 +37,5 @@ module _ (grey : ℕ) (samples : List ℕ) (start many : ℕ) (room : List ℕ) 
       go : Dec (i < many) → getD flags i 0 ≤ 1
       go (yes l) = rw (laid-at many i _ room 0 l) (bit-le (isAboveGrey grey samples (start + i)))
       go (no past) =
-          let e : length (flagsFrom grey samples start many) + (i - many) ≡ i = omega (arith, length-list many (λ i. one-if (isAboveGrey grey samples (start + i)))) in
+          let e : length (flagsFrom grey samples start many) + (i - many) ≡ i = omega (arith, length-flags grey samples start many) in
           subst (λ k. getD flags k 0 ≤ 1) e (rw (laid-rest (flagsFrom grey samples start many) room (i - many) 0) (are _))

@@ -6,15 +6,11 @@ use native.Mathlib.Omega.{arith}
 use lib.Dec.{leb}
 use lib.ListN.{length, getD}
 use Rattle.laws.specs.Range.{one-if}
-use Rattle.laws.proofs.Values.{length-list, list-cong, list-split}
+use Rattle.laws.proofs.Values.{list-cong, list-split}
 use Rattle.grid.specs.Grid.{isAboveGrey}
 use Rattle.grid.specs.Work.{sampleOf, lentSamples}
 use Rattle.grid.proofs.Lent.{kept-first, others-after}
 use Rattle.masks.specs.Flags.{flagsFrom}
-
-pub length-flags : (grey : ℕ) (samples : List ℕ) (start many : ℕ) → length (flagsFrom grey samples start many) ≡ many
-unfolding flagsFrom
-length-flags grey samples start many = length-list many _
 
 module _ (kept samples : List ℕ) (grey : ℕ) where
   flag-same : {v w : ℕ} → v ≡ w → one-if (leb grey w) ≡ one-if (leb grey v)

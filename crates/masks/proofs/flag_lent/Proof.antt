@@ -1,5 +1,5 @@
 -- `masks::flag_lent` meets its contract: the samples are past the kept ones, or some of them are kept. Assumes nothing.
-use mathlib.Core.Path.{_≡_, refl, ap, sym, _∙_}
+use mathlib.Core.Path.{_≡_, ap, _∙_}
 use mathlib.Core.List.{map}
 use Prim.Native.Nat.{_+_, _-_, _≤_}
 use native.Mathlib.Omega.{arith}
@@ -12,7 +12,8 @@ use Rattle.laws.proofs.Writes.{sets-front, laid-sets}
 use Rattle.grid.specs.Work.{sampleOf, lentSamples}
 use Rattle.grid.proofs.Lent.{length-lent}
 use Rattle.masks.specs.Flags.{flagsFrom}
-use Rattle.masks.proofs.Lent.{length-flags, flags-past, flags-both}
+use Rattle.masks.proofs.Flags.{length-flags}
+use Rattle.masks.proofs.Lent.{flags-past, flags-both}
 use Rattle.masks.proofs.flag_lent.Statement.{statement}
 use Rattle.masks.proofs.flag_lent.Tie as tie
 

@@ -1,14 +1,13 @@
 -- `masks::flag_samples` meets its contract. The samples passed are flagged. Assumes nothing.
-use mathlib.Core.Path.{_≡_, refl}
+use mathlib.Core.Path.{_≡_, refl, sym}
 use Prim.Native.Nat.{ℕ, _+_, _-_, _≤_}
 use native.Mathlib.Omega.{arith}
 use lib.Dec.{leb}
 use lib.ListN.{length, getD, length-set}
 use lib.Seq.{sets}
 use borrow.Author.Needs.{needs}
-use Rattle.laws.specs.Range.{one-if, joinTo}
-use Rattle.laws.specs.Values.{listTo}
-use Rattle.laws.proofs.Values.{sets-more}
+use Rattle.laws.specs.Range.{one-if}
+use Rattle.laws.proofs.Runs.{run-none, run-more}
 use Rattle.grid.specs.Grid.{isAboveGrey}
 use Rattle.masks.specs.Flags.{flagsFrom}
 use Rattle.masks.proofs.flag_samples.Statement.{statement}
@@ -21,8 +20,8 @@ abbrev μ-loop : tie.MeasureT-loop
 μ-loop samples start many grey at flags₀ i₀ flags i = many - i
 
 loop-holds : tie.Need-loop-holds Inv-loop μ-loop
-unfolding flagsFrom listTo joinTo
-loop-holds c = (refl, omega arith, refl)
+unfolding flagsFrom
+loop-holds c = let a = c .before .before .args in (refl, omega arith, sym (run-none (a .flags .now) (a .at) _))
 
 add-above-flag : tie.Need-add-above-flag Inv-loop μ-loop
 add-above-flag c = search needs
@@ -56,7 +55,7 @@ loop-again c =
     let flag : ℕ → ℕ = λ i. one-if (leb (a .grey) (getD (a .samples .now) (a .start + i) 0)) in (
       simp length-set (l .inv .0),
       omega arith,
-      rw (l .inv .2, c .above-flag .ensures) (sets-more (l .i) flag (a .flags .now) (a .at)),
+      rw (l .inv .2, c .above-flag .ensures) (run-more (a .flags .now) (a .at) (l .i) flag),
     )
 
 same-length : tie.Need-same-length Inv-loop μ-loop

@@ -1,5 +1,4 @@
 -- `masks::kept_flag` meets its contract. Assumes nothing.
-use mathlib.Core.Path.{ap, _∙_}
 use borrow.Author.Needs.{needs}
 use borrow.Author.Tests.{le-leb, lt-leb}
 use Rattle.masks.proofs.kept_flag.Statement.{statement}
