@@ -24,8 +24,8 @@ pub(crate) fn refused(number: u32) -> Extracted {
     }
 }
 
-/// Refusals 1, 2 and 3, in this order; 0 if there is none.
-fn check(sides: [u32; 3], samples: usize, work: usize) -> u32 {
+/// Refusals 1 and 2, in this order; 0 if there is none.
+pub(crate) fn check_samples(sides: [u32; 3], samples: usize) -> u32 {
     // "a side is below 2 or above 64"
     if !are_sides(sides) {
         return 1;
@@ -36,8 +36,17 @@ fn check(sides: [u32; 3], samples: usize, work: usize) -> u32 {
     if samples != sample_count {
         return 2;
     }
+    0
+}
+
+/// Refusals 1, 2 and 3, in this order; 0 if there is none.
+pub(crate) fn check(sides: [u32; 3], samples: usize, work: usize) -> u32 {
+    let number = check_samples(sides, samples);
+    if number != 0 {
+        return number;
+    }
     // "a work or result room of fixed length has another length"
-    if work != 3 * sample_count {
+    if work != 3 * samples {
         return 3;
     }
     0
@@ -70,6 +79,33 @@ pub(crate) fn put_triangles(list: &[[u32; 3]], triangles: &mut [u32]) {
     }
 }
 
+/// Puts a mesh in front of its rooms; the rest of each room stays. Refusals 4
+/// and 5, in this order; they leave the rooms.
+pub(crate) fn put_mesh(
+    point_list: &[Point],
+    triangle_list: &[[u32; 3]],
+    points: &mut [u32],
+    edges: &mut [u32],
+    marks: &mut [u8],
+    triangles: &mut [u32],
+) -> Extracted {
+    // "points exceed 250,000 or the least of the point, edge and mark rooms"
+    if point_list.len() > MOST_POINTS.min(point_room(points, edges, marks)) {
+        return refused(4);
+    }
+    // "triangles exceed 500,000 or their room"
+    if triangle_list.len() > MOST_TRIANGLES.min(triangle_room(triangles)) {
+        return refused(5);
+    }
+    put_points(point_list, points, edges, marks);
+    put_triangles(triangle_list, triangles);
+    Extracted {
+        number: 0,
+        points: point_list.len() as u32,
+        triangles: triangle_list.len() as u32,
+    }
+}
+
 /// "The extractor fills points (three u32 each), edge numbers, marks and
 /// triangles from the front of the lent rooms; the rest of each room stays. Its
 /// work room has exactly 3·nx·ny·nz numbers."
@@ -97,30 +133,10 @@ pub fn extract(
     }
     work.fill(0);
 
-    let grid = Grid {
-        sides,
-        grey,
-        samples,
-        lowest: 0,
-    };
+    let grid = Grid::whole(sides, grey, samples);
     let point_list = grid.points();
-    // "points exceed 250,000 or the least of the point, edge and mark rooms"
-    if point_list.len() > MOST_POINTS.min(point_room(points, edges, marks)) {
-        return refused(4);
-    }
     let triangle_list = grid.triangles(&point_list, &cube::CASES);
-    // "triangles exceed 500,000 or their room"
-    if triangle_list.len() > MOST_TRIANGLES.min(triangle_room(triangles)) {
-        return refused(5);
-    }
-
-    put_points(&point_list, points, edges, marks);
-    put_triangles(&triangle_list, triangles);
-    Extracted {
-        number: 0,
-        points: point_list.len() as u32,
-        triangles: triangle_list.len() as u32,
-    }
+    put_mesh(&point_list, &triangle_list, points, edges, marks, triangles)
 }
 
 /// The points and the triangles of a grid that is not refused, with document
@@ -130,12 +146,7 @@ pub fn mesh_of_document_01(
     grey: u16,
     samples: &[u16],
 ) -> (Vec<Point>, Vec<[u32; 3]>) {
-    let grid = Grid {
-        sides,
-        grey,
-        samples,
-        lowest: 0,
-    };
+    let grid = Grid::whole(sides, grey, samples);
     let points = grid.points();
     let triangles = grid.triangles(&points, &cube::CASES_OF_DOCUMENT_01);
     (points, triangles)

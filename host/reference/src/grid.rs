@@ -47,15 +47,19 @@ pub fn offset(v0: u16, v1: u16, grey: u16) -> u32 {
     (2 * numerator + denominator) / (2 * denominator)
 }
 
-impl Grid<'_> {
-    /// "Sample (x,y,z) stands at s = x + nx(y + ny z)."
-    fn sample_number(&self, [x, y, z]: [u32; 3]) -> u32 {
-        let [nx, ny, _] = self.sides;
-        x + nx * (y + ny * z)
+impl<'a> Grid<'a> {
+    /// A grid whose samples are all there.
+    pub(crate) fn whole(sides: [u32; 3], grey: u16, samples: &'a [u16]) -> Grid<'a> {
+        Grid {
+            sides,
+            grey,
+            samples,
+            lowest: 0,
+        }
     }
 
     fn sample(&self, [x, y, z]: [u32; 3]) -> u16 {
-        self.samples[self.sample_number([x, y, z - self.lowest]) as usize]
+        self.samples[sample_number(self.sides, [x, y, z - self.lowest]) as usize]
     }
 
     /// "A sample is *above* if it is at least the grey value, else *below*."
@@ -66,7 +70,7 @@ impl Grid<'_> {
     /// "Grid edge 3s + a leaves that sample along axis a (0 is x, 1 is y, 2 is
     /// z) towards the larger coordinate, if a sample is there."
     fn edge_number(&self, at: [u32; 3], axis: usize) -> u32 {
-        3 * self.sample_number(at) + axis as u32
+        3 * sample_number(self.sides, at) + axis as u32
     }
 
     /// "A point lies on an outer face when its grid edge does (a coordinate
@@ -129,6 +133,14 @@ impl Grid<'_> {
             .fold(0, |case, corner| case | 1 << corner)
     }
 
+    /// Whether the cube whose corner 0 is the sample `at` is crossed: it has a
+    /// corner above and a corner below.
+    pub(crate) fn is_crossed(&self, at: [u32; 3]) -> bool {
+        let (all_below, all_above) = (0, u8::MAX);
+        let case = self.case(at);
+        case != all_below && case != all_above
+    }
+
     /// The triangles of these cubes, each in "the case's order", each corner
     /// named by its grid edge. `cases` are the triangles of every case.
     fn edge_triangles(
@@ -155,6 +167,16 @@ impl Grid<'_> {
     /// `points` is the list of [`Grid::points`], and `cases` are the triangles
     /// of every case.
     pub(crate) fn triangles(&self, points: &[Point], cases: &[Vec<[u8; 3]>]) -> Vec<[u32; 3]> {
+        self.triangles_of(cubes(self.sides), points, cases)
+    }
+
+    /// The triangles of these cubes, in their order, each in "the case's order".
+    pub(crate) fn triangles_of(
+        &self,
+        cubes: impl Iterator<Item = [u32; 3]>,
+        points: &[Point],
+        cases: &[Vec<[u8; 3]>],
+    ) -> Vec<[u32; 3]> {
         let mut number_of = vec![None; 3 * self.samples.len()];
         for (number, point) in (0..).zip(points) {
             number_of[point.edge as usize] = Some(number);
@@ -162,7 +184,7 @@ impl Grid<'_> {
         let named = |edge: u32| {
             number_of[edge as usize].expect("a crossed cube edge is a crossed grid edge")
         };
-        self.edge_triangles(places(self.sides.map(|side| side - 1)), cases)
+        self.edge_triangles(cubes, cases)
             .into_iter()
             .map(|triangle| triangle.map(named))
             .collect()
@@ -178,6 +200,20 @@ impl Grid<'_> {
     }
 }
 
+/// "Sample (x,y,z) stands at s = x + nx(y + ny z)."
+pub(crate) fn sample_number([nx, ny, _]: [u32; 3], [x, y, z]: [u32; 3]) -> u32 {
+    x + nx * (y + ny * z)
+}
+
+/// The cubes of a grid with these sides, each named by its corner 0, "x fastest,
+/// then y, then z".
+///
+/// Cube (x, y, z) has its corners at the samples x to x + 1, y to y + 1 and z to
+/// z + 1, and all of these are samples of the grid.
+pub(crate) fn cubes(sides: [u32; 3]) -> impl Iterator<Item = [u32; 3]> {
+    places(sides.map(|side| side - 1))
+}
+
 /// All (x, y, z) below `sides`, "x fastest, then y, then z".
 fn places(sides: [u32; 3]) -> impl Iterator<Item = [u32; 3]> {
     (0..sides[2]).flat_map(move |z| layer_places(sides, z))
@@ -188,6 +224,7 @@ fn layer_places([nx, ny, _]: [u32; 3], z: u32) -> impl Iterator<Item = [u32; 3]>
     (0..ny).flat_map(move |y| (0..nx).map(move |x| [x, y, z]))
 }
 
-fn shifted(at: [u32; 3], by: [u8; 3]) -> [u32; 3] {
+/// The place that lies so far from `at`.
+pub(crate) fn shifted(at: [u32; 3], by: [u8; 3]) -> [u32; 3] {
     [0, 1, 2].map(|axis| at[axis] + u32::from(by[axis]))
 }

@@ -2,59 +2,14 @@
 //! same mesh.
 
 use crate::tools::{
-    exactly_250_000_points, extracted, one_point_more, random_grid, Grid, Mesh, Random,
+    exactly_250_000_points, exactly_500_000_triangles, extracted, one_point_more,
+    one_triangle_more, random_grid, Grid, Mesh, Random, Rooms,
 };
 use reference::cube;
-use reference::extract::{extract, Extracted};
+use reference::extract::Extracted;
 use reference::grid::offset;
 use reference::smooth::smooth;
 use std::collections::{BTreeMap, BTreeSet};
-
-/// All rooms of one call.
-#[derive(Clone, PartialEq, Debug)]
-struct Rooms {
-    points: Vec<u32>,
-    edges: Vec<u32>,
-    marks: Vec<u8>,
-    triangles: Vec<u32>,
-    work: Vec<u32>,
-}
-
-impl Rooms {
-    /// Rooms of these lengths, full of values that no call writes.
-    fn guarded(points: usize, edges: usize, marks: usize, triangles: usize, work: usize) -> Rooms {
-        Rooms {
-            points: (0..points as u32).map(|i| 3_000_000_000 + i).collect(),
-            edges: (0..edges as u32).map(|i| 2_000_000_000 + i).collect(),
-            marks: (0..marks).map(|i| 100 + (i % 100) as u8).collect(),
-            triangles: (0..triangles as u32).map(|i| 1_000_000_000 + i).collect(),
-            work: (0..work as u32).map(|i| 4_000_000_000 + i).collect(),
-        }
-    }
-
-    fn extract(&mut self, grid: &Grid) -> Extracted {
-        let [nx, ny, nz] = grid.sides;
-        extract(
-            nx,
-            ny,
-            nz,
-            grid.grey,
-            &grid.samples,
-            &mut self.points,
-            &mut self.edges,
-            &mut self.marks,
-            &mut self.triangles,
-            &mut self.work,
-        )
-    }
-
-    /// These rooms with the work room zero.
-    fn with_zero_work(&self) -> Rooms {
-        let mut rooms = self.clone();
-        rooms.work = vec![0; rooms.work.len()];
-        rooms
-    }
-}
 
 fn refused(number: u32) -> Extracted {
     Extracted {
@@ -252,27 +207,15 @@ fn exactly_250_000_points_are_taken() {
     assert_refused(&over, &rooms, 4);
 }
 
-/// Random holes in the first samples give 499,993 triangles; a hole by itself on
-/// an outer face adds four, on an outer edge of the grid two, at its corner one.
 #[test]
 fn exactly_500_000_triangles_are_taken() {
-    let mut random = Random::new(5);
-    let mut grid = Grid::filled([64, 64, 64], 500, 1000);
-    for sample in &mut grid.samples[..187_726] {
-        if random.below(100) < 30 {
-            *sample = 0;
-        }
-    }
-    for place in [[31, 31, 63], [31, 0, 63], [0, 0, 63]] {
-        grid.set(place, 0);
-    }
+    let (exact, over) = (exactly_500_000_triangles(), one_triangle_more());
     let rooms = Rooms::guarded(750_003, 250_001, 250_001, 1_500_003, 786_432);
     let mut after = rooms.clone();
-    let answer = after.extract(&grid);
+    let answer = after.extract(&exact);
     assert_eq!((answer.number, answer.triangles), (0, 500_000));
     assert_eq!(after.triangles[1_500_000..], rooms.triangles[1_500_000..]);
-    grid.set([63, 63, 63], 0);
-    assert_refused(&grid, &rooms, 5);
+    assert_refused(&over, &rooms, 5);
 }
 
 /// A full checkerboard crosses all 774,144 grid edges.

@@ -6,9 +6,11 @@ mod curvature;
 mod extract;
 mod layers;
 mod mesh;
+mod query;
 mod read;
 mod shells;
 mod smooth;
+mod summary;
 mod text;
 #[path = "../../../viewer/tests/tools/texts.rs"]
 mod texts;

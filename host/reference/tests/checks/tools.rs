@@ -1,6 +1,7 @@
-//! A small generator of numbers, meshes and grids.
+//! A small generator of numbers, meshes, grids and rooms.
 
-use reference::extract::extract;
+use reference::extract::{extract, Extracted};
+use reference::query::{query, Queried};
 use reference::shells::Shell;
 
 /// An xorshift generator.
@@ -118,6 +119,18 @@ impl Grid {
         grid
     }
 
+    /// A grid of samples 100 and 0 and grey value 50, with these above.
+    pub fn above_where(sides: [u32; 3], above: impl Fn([u32; 3]) -> bool) -> Grid {
+        let mut grid = Grid::filled(sides, 50, 0);
+        let [nx, ny, _] = sides;
+        for (s, sample) in (0..).zip(&mut grid.samples) {
+            if above([s % nx, s / nx % ny, s / (nx * ny)]) {
+                *sample = 100;
+            }
+        }
+        grid
+    }
+
     /// Side 64, every other sample above.
     pub fn checkerboard() -> Grid {
         let mut grid = Grid::filled([64, 64, 64], 1, 0);
@@ -165,6 +178,30 @@ pub fn one_point_more() -> Grid {
     grid
 }
 
+/// A grid of 500,000 triangles: random holes in the first samples give 499,993; a
+/// hole by itself on an outer face adds four, on an outer edge of the grid two,
+/// at its corner one.
+pub fn exactly_500_000_triangles() -> Grid {
+    let mut random = Random::new(5);
+    let mut grid = Grid::filled([64, 64, 64], 500, 1000);
+    for sample in &mut grid.samples[..187_726] {
+        if random.below(100) < 30 {
+            *sample = 0;
+        }
+    }
+    for place in [[31, 31, 63], [31, 0, 63], [0, 0, 63]] {
+        grid.set(place, 0);
+    }
+    grid
+}
+
+/// A grid of 500,001 triangles: another hole at a corner.
+pub fn one_triangle_more() -> Grid {
+    let mut grid = exactly_500_000_triangles();
+    grid.set([63, 63, 63], 0);
+    grid
+}
+
 /// A grid with random sides below 8, and samples of several kinds.
 pub fn random_grid(random: &mut Random) -> Grid {
     let sides = [0; 3].map(|_| 2 + random.below(6));
@@ -186,28 +223,98 @@ pub fn random_grid_of(random: &mut Random, sides: [u32; 3]) -> Grid {
     grid
 }
 
+/// All rooms of an extraction or a query.
+#[derive(Clone, PartialEq, Debug)]
+pub struct Rooms {
+    pub points: Vec<u32>,
+    pub edges: Vec<u32>,
+    pub marks: Vec<u8>,
+    pub triangles: Vec<u32>,
+    pub work: Vec<u32>,
+}
+
+impl Rooms {
+    /// Rooms of these lengths, full of values that no call writes.
+    pub fn guarded(
+        points: usize,
+        edges: usize,
+        marks: usize,
+        triangles: usize,
+        work: usize,
+    ) -> Rooms {
+        Rooms {
+            points: (0..points as u32).map(|i| 3_000_000_000 + i).collect(),
+            edges: (0..edges as u32).map(|i| 2_000_000_000 + i).collect(),
+            marks: (0..marks).map(|i| 100 + (i % 100) as u8).collect(),
+            triangles: (0..triangles as u32).map(|i| 1_000_000_000 + i).collect(),
+            work: (0..work as u32).map(|i| 4_000_000_000 + i).collect(),
+        }
+    }
+
+    /// Rooms that hold the mesh of so many samples for sure.
+    pub fn enough(samples: usize) -> Rooms {
+        Rooms::guarded(
+            9 * samples,
+            3 * samples,
+            3 * samples,
+            15 * samples,
+            3 * samples,
+        )
+    }
+
+    pub fn extract(&mut self, grid: &Grid) -> Extracted {
+        let [nx, ny, nz] = grid.sides;
+        extract(
+            nx,
+            ny,
+            nz,
+            grid.grey,
+            &grid.samples,
+            &mut self.points,
+            &mut self.edges,
+            &mut self.marks,
+            &mut self.triangles,
+            &mut self.work,
+        )
+    }
+
+    pub fn query(&mut self, grid: &Grid, summary: &[u16]) -> Queried {
+        let [nx, ny, nz] = grid.sides;
+        query(
+            nx,
+            ny,
+            nz,
+            grid.grey,
+            &grid.samples,
+            summary,
+            &mut self.points,
+            &mut self.edges,
+            &mut self.marks,
+            &mut self.triangles,
+            &mut self.work,
+        )
+    }
+
+    /// These rooms with the work room zero.
+    pub fn with_zero_work(&self) -> Rooms {
+        let mut rooms = self.clone();
+        rooms.work = vec![0; rooms.work.len()];
+        rooms
+    }
+}
+
 /// The mesh of a grid and its grid edges, from rooms that hold it for sure.
 pub fn extracted(grid: &Grid) -> (Mesh, Vec<u32>) {
-    let [nx, ny, nz] = grid.sides;
-    let count = grid.samples.len();
-    let mut points = vec![0; 9 * count];
-    let mut edges = vec![0; 3 * count];
-    let mut marks = vec![0; 3 * count];
-    let mut triangles = vec![0; 15 * count];
-    let mut work = vec![0; 3 * count];
-    let answer = extract(
-        nx,
-        ny,
-        nz,
-        grid.grey,
-        &grid.samples,
-        &mut points,
-        &mut edges,
-        &mut marks,
-        &mut triangles,
-        &mut work,
-    );
+    let mut rooms = Rooms::enough(grid.samples.len());
+    let answer = rooms.extract(grid);
     assert_eq!(answer.number, 0);
+    let Rooms {
+        mut points,
+        mut edges,
+        mut marks,
+        mut triangles,
+        ..
+    } = rooms;
     points.truncate(3 * answer.points as usize);
     edges.truncate(answer.points as usize);
     marks.truncate(answer.points as usize);
