@@ -59,7 +59,7 @@ same-bits : (b : Bool) (v x : ℕ) → bit v x ≡ b → bit v (x + 1) ≡ b →
 same-bits b v x this next = two-bits v x ∙ rw (this, next) (omega arith)
 
 -- a cube that is all above or all below has no triangle
-whole-cube : (b : Bool) → count ((cases - 1) * one-if b) ≡ 0
+pub whole-cube : (b : Bool) → count ((cases - 1) * one-if b) ≡ 0
 unfolding count triangles fanOf loops segments segmentsOf flatMap faceSegments cuts wayRound isAbove bit
 whole-cube true = refl
 whole-cube false = refl

@@ -1,4 +1,5 @@
--- What the functions' proofs cite: cases; busy cubes; layers, stretch by stretch.
+-- What the functions' proofs cite: cases; busy cubes; layers, stretch by stretch; words of found cubes.
 pub mod Cases
 pub mod Busy
 pub mod Layers
+pub mod Found

@@ -1,12 +1,14 @@
 -- Cubes by the words of the four rows of samples around them, and their triangles, counted.
 use mathlib.Core.Path.{_≡_}
-use mathlib.Core.Bool.{true, false, cond}
+use mathlib.Core.Bool.{Bool, true, false, cond}
 use mathlib.Core.List.{List}
-use Prim.Native.Nat.{ℕ, _+_, _*_, _-_, _/_, _%_, _^_}
-use lib.ListN.{getD}
+use Prim.Native.Nat.{ℕ, _+_, _*_, _-_, _/_, _%_, _^_, _<_}
+use lib.ListN.{length, getD}
 use Rattle.laws.specs.Bits.{wordBits, bit}
 use Rattle.laws.specs.Range.{sumTo}
 use Rattle.cube.specs.Answer.{count}
+use Rattle.grid.specs.Limits.{mostSide}
+use Rattle.grid.specs.Grid.{Size}
 use Rattle.grid.specs.Mesh.{caseAt}
 use Rattle.rows.specs.declared.Sides.{Sides}
 use Rattle.rows.specs.Rows.{sizeOf, wordsAbove}
@@ -33,6 +35,31 @@ wordCase m i = readCase m i
 pub record BusyCubes (m : Corners) (cubes busy : ℕ) : Type 0 where
   pub inside : (i : ℕ) → bit busy i ≡ true → bit cubes i ≡ true
   pub quiet : (i : ℕ) → bit cubes i ≡ true → bit busy i ≡ false → count (wordCase m i) ≡ 0
+
+-- Words of found cubes, which a query hands in (document 02, (vi)): that of row (y, z) of cubes stands at y + mostSide z, and its bit x says whether cube (x, y, z) was found.
+abbrev pub foundRow : ℕ → ℕ → ℕ
+foundRow y z = y + mostSide * z
+
+abbrev pub isFound : List ℕ → ℕ → ℕ → ℕ → Bool
+isFound found x y z = bit (getD found (foundRow y z) 0) x
+
+-- what they owe of layer z of cubes: each row of the grid has its word, in which only cubes of the row are found, and a cube that is not found has no triangle
+pub record LayerFound (n : Size) (above : ℕ → Bool) (found : List ℕ) (z : ℕ) : Type 0 where
+  pub listed : (y : ℕ) → y + 1 < n .ny → foundRow y z < length found
+  pub inside : (x y : ℕ) → y + 1 < n .ny → isFound found x y z ≡ true → x + 1 < n .nx
+  pub quiet : (x y : ℕ) → x + 1 < n .nx → y + 1 < n .ny → isFound found x y z ≡ false → count (caseAt n above x y z) ≡ 0
+
+-- such words for a layer of cubes, or none at all; and the same for every layer
+abbrev pub FoundIn : Size → (ℕ → Bool) → List ℕ → ℕ → Type 0
+FoundIn n above found z = (length found ≡ 0 → ⊥) → LayerFound n above found z
+
+abbrev pub FoundCubes : Size → (ℕ → Bool) → List ℕ → Type 0
+FoundCubes n above found = (z : ℕ) → z + 1 < n .nz → FoundIn n above found z
+
+-- what a stretch takes of them: the word of its row, which has the busy ones of its cubes
+pub record RowFound (found : List ℕ) (row : ℕ) (m : Corners) (cubes : ℕ) : Type 0 where
+  pub listed : row < length found
+  pub busy : BusyCubes m cubes (getD found row 0)
 
 -- how many triangles the cubes of a stretch have whose bits are set
 abbrev pub busyCount : Corners → ℕ → ℕ → ℕ

@@ -8,13 +8,17 @@ ghost use Rattle.grid.specs.Mode.{cubes};
 ghost use Rattle.grid.specs.Mesh.{edgeMesh};
 ghost use Rattle.grid.specs.Work.{size, SidesFit};
 ghost use Rattle.masks.specs.Masks.{rowWords, maskAbove, Agreeing};
-ghost use Rattle.rows.specs.Rows.{Ready};
-ghost use Rattle.cuberows.specs.Cubes.{cornersAt, readCase, BusyCubes, stretchCount, layerCount};
+ghost use Rattle.rows.specs.Rows.{Ready, sizeOf, wordsAbove};
+ghost use Rattle.cuberows.specs.Cubes.{cornersAt, readCase, BusyCubes, foundRow, RowFound, FoundIn, FoundCubes, stretchCount, layerCount};
 use cube::CASES;
+use grid::limits::MOST_SIDE;
 use rows::Sides;
 
 // A case of a cube's four lower corners is below this.
 const FOUR_CORNERS: u64 = 16;
+
+// Rows of cubes that a layer of found words has places for, whatever the sides of the grid are.
+const FOUND_ROWS: usize = MOST_SIDE as usize;
 
 // The words of the four rows of samples around a stretch of cubes: of the cubes' own y and z, and one on along y, along z and along both.
 pub struct Corners {
@@ -36,7 +40,7 @@ impl Corners {
     }
 
     // Of some cubes, a bit each, those that are neither all above nor all below; no other has a triangle.
-    pub fn busy(self, cubes: u64) -> u64
+    fn busy(self, cubes: u64) -> u64
         ensures { λ r. ⌜ BusyCubes self cubes r ⌝ }
     {
         let m = self.m00;
@@ -61,6 +65,17 @@ pub fn corners_at(sides: Sides, word: usize, masks: &[u64]) -> Corners
     }
 }
 
+// Of some cubes of a stretch those to walk: where words of found cubes are lent its row's own word, else those that are neither all above nor all below.
+pub fn busy_cubes(found: &[u64], y: usize, z: usize, corners: Corners, cubes: u64) -> u64
+    requires { ⌜ ((length (now found) ≡ 0 → ⊥) → RowFound (now found) (foundRow y z) corners cubes) ⌝ }
+    ensures { λ r. ⌜ BusyCubes corners cubes r ⌝ }
+{
+    if found.len() == 0 {
+        return corners.busy(cubes);
+    }
+    found[y + FOUND_ROWS * z]
+}
+
 // How many triangles some cubes of a stretch have, a bit each.
 fn count_stretch(counts: &[u8; CASES], corners: Corners, cubes: u64) -> u32
     requires { ⌜ Counts (now counts) ⌝ }
@@ -76,29 +91,38 @@ fn count_stretch(counts: &[u8; CASES], corners: Corners, cubes: u64) -> u32
     sum
 }
 
-// How many triangles a layer of cubes has.
-pub fn count_layer(counts: &[u8; CASES], sides: Sides, z: usize, masks: &[u64]) -> u32
+// How many triangles a layer of cubes has; `found` has words of found cubes, or none at all.
+pub fn count_layer(
+    counts: &[u8; CASES],
+    sides: Sides,
+    z: usize,
+    masks: &[u64],
+    found: &[u64],
+) -> u32
     requires { ⌜ Counts (now counts) ⌝ }
     requires { ⌜ Ready sides z (now masks) ⌝ }
     requires { ⌜ z + 1 < sides .nz ⌝ }
+    requires { ⌜ FoundIn (sizeOf sides) (wordsAbove sides (now masks)) (now found) z ⌝ }
     ensures { λ r. ⌜ r ≡ layerCount sides (now (masks .entry)) z ⌝ }
 {
     let mut at = rows::first(sides, z);
     let mut sum = 0;
     while at.y + 1 < sides.ny {
         let corners = corners_at(sides, at.word, masks);
-        let busy = corners.busy(rows::cubes_mask(sides, at.left));
+        let cubes = rows::cubes_mask(sides, at.left);
+        let busy = busy_cubes(found, at.y, z, corners, cubes);
         sum += count_stretch(counts, corners, busy);
         at = rows::next(sides, at);
     }
     sum
 }
 
-// How many triangles the grid has.
-pub fn count(nx: usize, ny: usize, nz: usize, masks: &[u64]) -> u32
+// How many triangles the grid has; `found` has words of found cubes, or none at all.
+pub fn count(nx: usize, ny: usize, nz: usize, masks: &[u64], found: &[u64]) -> u32
     requires { ⌜ SidesFit nx ny nz ⌝ }
     requires { ⌜ rowWords nx * (ny * nz) ≤ length (now masks) ⌝ }
     requires { ⌜ Agreeing nx (ny * nz) (now masks) ⌝ }
+    requires { ⌜ FoundCubes (size nx ny nz) (maskAbove nx (now masks)) (now found) ⌝ }
     ensures { λ r. ⌜ r ≡ length (edgeMesh cubes (size nx ny nz) (maskAbove nx (now (masks .entry)))) ⌝ }
 {
     let counts = cube::counts();
@@ -113,7 +137,7 @@ pub fn count(nx: usize, ny: usize, nz: usize, masks: &[u64]) -> u32
     let last = nz - 1;
     let mut sum = 0;
     for z in 0..last {
-        sum += count_layer(&counts, sides, z, masks);
+        sum += count_layer(&counts, sides, z, masks, found);
     }
     sum
 }

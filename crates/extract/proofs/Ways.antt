@@ -18,6 +18,8 @@ use Rattle.grid.specs.Work.{size, SidesFit}
 use Rattle.grid.proofs.Same.{points-same, mesh-same}
 use Rattle.masks.specs.Masks.{maskAbove, Masked}
 use Rattle.masks.proofs.Above.{told-above}
+use Rattle.cuberows.specs.Cubes.{FoundCubes}
+use Rattle.cuberows.proofs.Found.{found-same}
 use Rattle.extract.specs.Extraction.{Rooms, Outcome, refused, cleared, pointList, triangleList, pointRoom, triangleRoom, granted, measured}
 use Rattle.extract.specs.Promise.{rooms, left}
 
@@ -27,6 +29,10 @@ module _ (nx ny nz grey : ℕ) (samples masks : List ℕ) (fits : SidesFit nx ny
 
   same : (s : ℕ) → s < nx * (ny * nz) → maskAbove nx masks s ≡ isAboveGrey grey samples s
   same = told-above nx (ny * nz) (isAboveGrey grey samples) masks (fits .least-x) masked
+
+  -- so words of found cubes that are right for the samples are right for the masks
+  pub found-is : (found : List ℕ) → FoundCubes (size nx ny nz) (isAboveGrey grey samples) found → FoundCubes (size nx ny nz) (maskAbove nx masks) found
+  found-is = found-same (size nx ny nz) (maskAbove nx masks) (isAboveGrey grey samples) same
 
   pub points-are : (r : Rooms) → masksPoints ≡ pointList cubes (size nx ny nz) grey samples r
   points-are r =

@@ -3,9 +3,10 @@ ghost use mathlib.Core.Path.{_≡_};
 ghost use Prim.Native.Nat.{min};
 ghost use lib.Dec.{ltb};
 ghost use lib.ListN.{length, replicate};
-ghost use Rattle.grid.specs.Grid.{axes, sampleCount, edgeCount};
+ghost use Rattle.grid.specs.Grid.{axes, sampleCount, edgeCount, isAboveGrey};
 ghost use Rattle.grid.specs.Mode.{cubes};
 ghost use Rattle.grid.specs.Work.{size, SidesFit};
+ghost use Rattle.cuberows.specs.Cubes.{FoundCubes};
 ghost use Rattle.extract.specs.Promise.{rooms, left, Extracts, Measures};
 use grid::limits::MOST_POINTS;
 use grid::limits::MOST_TRIANGLES;
@@ -47,13 +48,14 @@ fn refused_later(number: u32, work: &mut [u32]) -> Extracted
     refused(number)
 }
 
-// Points and triangles are counted before anything is written, so that a refusal leaves the rooms.
-fn measured(
+// Points and triangles are counted before anything is written, so that a refusal leaves the rooms. A query lends the words of the cubes that its steps found, the extractor none; the outcome is the same.
+pub fn measured(
     nx: usize,
     ny: usize,
     nz: usize,
     grey: u16,
     samples: &[u16],
+    found: &[u64],
     points: &mut [u32],
     edges: &mut [u32],
     marks: &mut [u8],
@@ -63,6 +65,7 @@ fn measured(
     requires { ⌜ SidesFit nx ny nz ⌝ }
     requires { ⌜ length (now samples) ≡ sampleCount (size nx ny nz) ⌝ }
     requires { ⌜ length (now work) ≡ edgeCount axes (size nx ny nz) ⌝ }
+    requires { ⌜ FoundCubes (size nx ny nz) (isAboveGrey grey (now samples)) (now found) ⌝ }
     ensures { λ r.
         let before = rooms (now (points .entry)) (now (edges .entry)) (now (marks .entry)) (now (triangles .entry)) (now (work .entry)) in
         let after = rooms (now (points .exit)) (now (edges .exit)) (now (marks .exit)) (now (triangles .exit)) (now (work .exit)) in
@@ -71,21 +74,21 @@ fn measured(
     let mut masks = [0u64; MOST_WORDS];
     let none_kept = [0u32; 0];
     masks::fill(&none_kept, samples, nx, ny * nz, grey, &mut masks);
-    let found = pointnumbers::number(nx, ny, nz, &masks, work);
+    let numbered = pointnumbers::number(nx, ny, nz, &masks, work);
     let room = rooms::least(points.len() / 3, rooms::least(edges.len(), marks.len()));
-    if exceeds(found, MOST_POINTS, room) {
+    if exceeds(numbered, MOST_POINTS, room) {
         return refused_later(4, work);
     }
-    let made = cuberows::count(nx, ny, nz, &masks);
+    let made = cuberows::count(nx, ny, nz, &masks, found);
     if exceeds(made, MOST_TRIANGLES, triangles.len() / 3) {
         return refused_later(5, work);
     }
     pointplaces::place(nx, ny, nz, grey, samples, &masks, points, edges, marks);
-    triangles::write(nx, ny, nz, &masks, work, triangles);
+    triangles::write(nx, ny, nz, &masks, found, work, triangles);
     rooms::clear(work);
     Extracted {
         number: 0,
-        points: found,
+        points: numbered,
         triangles: made,
     }
 }
@@ -121,12 +124,14 @@ pub fn extract(
     if work.len() != 3 * count {
         return refused(3);
     }
+    let none_found = [0u64; 0];
     measured(
         x,
         y,
         z,
         grey,
         samples,
+        &none_found,
         points,
         edges,
         marks,

@@ -8,6 +8,10 @@ leastSide = 2
 abbrev pub mostSide : ℕ
 mostSide = 64
 
+-- the whole block of a summary (document 02, (vi)) has 2^halvings cubes a side, as many as the greatest side
+abbrev pub halvings : ℕ
+halvings = 6
+
 -- the largest sample, grey value and number of a grid's text
 abbrev pub mostNumber : ℕ
 mostNumber = 65535

@@ -3,6 +3,9 @@ pub const LEAST_SIDE: u32 = 2;
 
 pub const MOST_SIDE: u32 = 64;
 
+// How often the whole block of a summary, of as many cubes a side, is halved.
+pub const HALVINGS: u32 = 6;
+
 // Rows of samples along x.
 pub const MOST_ROWS: usize = (MOST_SIDE * MOST_SIDE) as usize;
 

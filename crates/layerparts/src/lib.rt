@@ -78,12 +78,13 @@ pub fn refusal(head: Head, sides: Sides, masks: &[u64], room: usize, triangle_ro
     if fits_surely(head, sides, room, triangle_room) {
         return 0;
     }
-    let found = counting::count_points(sides, masks);
-    if exceeds(head.points, found, MOST_POINTS, room) {
+    let points = counting::count_points(sides, masks);
+    if exceeds(head.points, points, MOST_POINTS, room) {
         return 4;
     }
     let counts = cube::counts();
-    let made = cuberows::count_layer(&counts, sides, sides.below, masks);
+    let none_found = [0u64; 0];
+    let made = cuberows::count_layer(&counts, sides, sides.below, masks, &none_found);
     if exceeds(head.triangles, made, MOST_TRIANGLES, triangle_room) {
         return 5;
     }
@@ -134,12 +135,14 @@ pub fn hand_triangles(sides: Sides, masks: &[u64], triangles: &mut [u32]) -> u32
     let table = cube::rows();
     let counts = cube::counts();
     let offsets = triangles::edge_offsets(sides.nx, sides.ny);
+    let none_found = [0u64; 0];
     let numbers = [0u32; 0];
     let end = triangles::write_layer(
         &table,
         &counts,
         &offsets,
         masks,
+        &none_found,
         &numbers,
         triangles,
         sides,

@@ -14,7 +14,8 @@ ghost use Rattle.grid.specs.Mode.{cubes};
 ghost use Rattle.grid.specs.Mesh.{edgeMesh};
 ghost use Rattle.grid.specs.Work.{size, SidesFit, nameOf, Nameable, NamesFit};
 ghost use Rattle.masks.specs.Masks.{rowWords, maskAbove, Agreeing};
-ghost use Rattle.rows.specs.Rows.{Ready};
+ghost use Rattle.rows.specs.Rows.{Ready, sizeOf, wordsAbove};
+ghost use Rattle.cuberows.specs.Cubes.{FoundIn, FoundCubes};
 ghost use Rattle.triangles.specs.Names.{edgeOffset, cornerName, cubeNames, stretchNames, layerNames};
 ghost use Rattle.triangles.specs.Walk.{CornerFits, CubeRoom, StretchRoom, LayerRoom, Written};
 use cube::CASE_LENGTH;
@@ -120,12 +121,13 @@ fn write_stretch(
     to
 }
 
-// Writes the triangles of a layer of cubes, and answers where it stopped.
+// Writes the triangles of a layer of cubes, and answers where it stopped; `found` has words of found cubes, or none at all.
 pub fn write_layer(
     rows: &[u8; TABLE],
     counts: &[u8; CASES],
     offsets: &[usize; 12],
     masks: &[u64],
+    found: &[u64],
     names: &[u32],
     triangles: &mut [u32],
     sides: Sides,
@@ -136,6 +138,7 @@ pub fn write_layer(
     requires { ⌜ Counts (now counts) ⌝ }
     requires { ⌜ Ready sides z (now masks) ⌝ }
     requires { ⌜ z + 1 < sides .nz ⌝ }
+    requires { ⌜ FoundIn (sizeOf sides) (wordsAbove sides (now masks)) (now found) z ⌝ }
     requires { ⌜ LayerRoom (now offsets) (now names) (now triangles) sides (now masks) z from ⌝ }
     ensures { λ r. ⌜ Written (now (triangles .entry)) (now (triangles .exit)) from (layerNames (now (offsets .entry)) (now (names .entry)) sides (now (masks .entry)) z) r ⌝ }
 {
@@ -143,7 +146,8 @@ pub fn write_layer(
     let mut to = from;
     while at.y + 1 < sides.ny {
         let corners = cuberows::corners_at(sides, at.word, masks);
-        let busy = corners.busy(rows::cubes_mask(sides, at.left));
+        let cubes = rows::cubes_mask(sides, at.left);
+        let busy = cuberows::busy_cubes(found, at.y, z, corners, cubes);
         let edge = 3 * at.s;
         to = write_stretch(
             rows,
@@ -161,11 +165,20 @@ pub fn write_layer(
     to
 }
 
-// Writes the triangles to the front of their room, each corner as its grid edge is called: `names` has a name for each grid edge, or none at all.
-pub fn write(nx: usize, ny: usize, nz: usize, masks: &[u64], names: &[u32], triangles: &mut [u32])
+// Writes the triangles to the front of their room, each corner as its grid edge is called: `names` has a name for each grid edge, or none at all. `found` has words of found cubes, or none at all.
+pub fn write(
+    nx: usize,
+    ny: usize,
+    nz: usize,
+    masks: &[u64],
+    found: &[u64],
+    names: &[u32],
+    triangles: &mut [u32],
+)
     requires { ⌜ SidesFit nx ny nz ⌝ }
     requires { ⌜ rowWords nx * (ny * nz) ≤ length (now masks) ⌝ }
     requires { ⌜ Agreeing nx (ny * nz) (now masks) ⌝ }
+    requires { ⌜ FoundCubes (size nx ny nz) (maskAbove nx (now masks)) (now found) ⌝ }
     requires { ⌜ NamesFit (edgeCount axes (size nx ny nz)) (now names) ⌝ }
     requires { ⌜ 3 * length (edgeMesh cubes (size nx ny nz) (maskAbove nx (now masks))) ≤ length (now triangles) ⌝ }
     ensures { λ _.
@@ -191,6 +204,7 @@ pub fn write(nx: usize, ny: usize, nz: usize, masks: &[u64], names: &[u32], tria
             &counts,
             &offsets,
             masks,
+            found,
             names,
             triangles,
             sides,

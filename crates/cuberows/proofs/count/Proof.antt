@@ -13,22 +13,22 @@ use Rattle.cuberows.proofs.count.Statement.{statement}
 use Rattle.cuberows.proofs.count.Tie as tie
 
 abbrev Inv-loop : tie.InvT-loop
-Inv-loop nx ny nz masks counts sides last sum₀ z₀ sum z = (z ≤ nz - 1) × (sum ≡ sumTo z (layerCount sides masks))
+Inv-loop nx ny nz masks found counts sides last sum₀ z₀ sum z = (z ≤ nz - 1) × (sum ≡ sumTo z (layerCount sides masks))
 
 abbrev μ-loop : tie.MeasureT-loop
-μ-loop nx ny nz masks counts sides last sum₀ z₀ sum z = nz - 1 - z
+μ-loop nx ny nz masks found counts sides last sum₀ z₀ sum z = nz - 1 - z
 
 counts-requires : tie.Need-counts-requires Inv-loop μ-loop
 counts-requires c κs = search needs
 
 row-words-requires : tie.Need-row-words-requires Inv-loop μ-loop
-row-words-requires c κs = omega (arith, c .before .before .pre .0 .least-x)
+row-words-requires c κs = omega (arith, c .before .before .before .pre .0 .least-x)
 
 last-mask-requires : tie.Need-last-mask-requires Inv-loop μ-loop
-last-mask-requires c κs = omega (arith, c .before .before .before .pre .0 .least-x)
+last-mask-requires c κs = omega (arith, c .before .before .before .before .pre .0 .least-x)
 
 sub-last : tie.Need-sub-last Inv-loop μ-loop
-sub-last c = omega (arith, c .before .before .before .before .pre .0 .least-z)
+sub-last c = omega (arith, c .before .before .before .before .before .pre .0 .least-z)
 
 loop-holds : tie.Need-loop-holds Inv-loop μ-loop
 unfolding sumTo
@@ -37,34 +37,34 @@ loop-holds c = (omega arith, refl)
 -- the sides as the layers are given them
 abbrev sides : tie.After-last-mask Inv-loop μ-loop → Sides
 sides c =
-    let a = c .before .before .before .before .args in
+    let a = c .before .before .before .before .before .args in
     record { nx = a .nx; ny = a .ny; nz = a .nz; words = c .before .row-words .result; last = c .last-mask .result; below = 0 }
 
 count-layer-requires : tie.Need-count-layer-requires Inv-loop μ-loop
 count-layer-requires c κs =
     let m = c .before .before .before in
-    let s = m .before .before .before .before in (
+    let s = m .before .before .before .before .before in (
       c .before .before .before .before .before .counts .ensures,
       (
-        whole-ready (sides m) (s .args .masks .now) refl (s .pre .0) (m .before .row-words .ensures) (m .last-mask .ensures) (s .pre .1 .0) (s .pre .1 .1) _ (omega (arith, c .before)),
-        omega (arith, c .before),
+        whole-ready (sides m) (s .args .masks .now) refl (s .pre .0) (m .before .row-words .ensures) (m .last-mask .ensures) (s .pre .1 .0) (s .pre .1 .1 .0) _ (omega (arith, c .before)),
+        (omega (arith, c .before), s .pre .1 .1 .1 _ (omega (arith, c .before))),
       ),
     )
 
 -- one layer more
 added : (c : tie.After-count-layer Inv-loop μ-loop)
     → let l = c .before .before .before in
-    let masks = l .before .before .before .before .before .args .masks .now in
+    let masks = l .before .before .before .before .before .before .args .masks .now in
     l .loop .sum + c .count-layer .result ≡ sumTo (l .loop .z + 1) (layerCount (sides (l .before)) masks)
 added c =
     let l = c .before .before .before in
-    let masks = l .before .before .before .before .before .args .masks .now in
+    let masks = l .before .before .before .before .before .before .args .masks .now in
     omega (arith, l .loop .inv .1, c .count-layer .ensures, sum-next (l .loop .z) (layerCount (sides (l .before)) masks))
 
 add-sum : tie.Need-add-sum Inv-loop μ-loop
 add-sum c =
     let l = c .before .before .before in
-    let s = l .before .before .before .before .before in
+    let s = l .before .before .before .before .before .before in
     omega (arith, added c, layers-most (sides (l .before)) (s .args .masks .now) (l .loop .z + 1) (s .pre .0 .most-x) (s .pre .0 .most-y), l .loop .inv .0, s .pre .0 .most-z, s .pre .0 .least-z)
 
 add-z : tie.Need-add-z Inv-loop μ-loop
@@ -79,8 +79,8 @@ loop-again c = (omega (arith, c .before .before), added c)
 returns : tie.Need-returns Inv-loop μ-loop
 returns c =
     let l = c .before in
-    let masks = l .before .before .before .before .before .args .masks .now in
-    let all : l .loop .z ≡ l .before .before .before .before .before .args .nz - 1 = omega arith in
+    let masks = l .before .before .before .before .before .before .args .masks .now in
+    let all : l .loop .z ≡ l .before .before .before .before .before .before .args .nz - 1 = omega arith in
     l .loop .inv .1 ∙ ap (λ n. sumTo n (layerCount (sides (l .before)) masks)) all ∙ mesh-count (sides (l .before)) masks
 
 pub count-spec : {M : Type 1} → statement M

@@ -10,23 +10,24 @@ use Rattle.rows.specs.Rows.{Stands, firstX, ownCubes, cubesMask, firstStretch}
 use Rattle.rows.proofs.Stretches.{stands-first, stands-next, word-there, stretch-addable, cubes-most}
 use Rattle.cuberows.specs.Cubes.{cornersAt, BusyCubes, stretchCount, cubeCase}
 use Rattle.cuberows.proofs.Layers.{countedTo, counted-none, counted-row, counted-all, counted-most, Within, cubes-next, corners-there, stretch-count}
+use Rattle.cuberows.proofs.Found.{row-found}
 use Rattle.cuberows.proofs.count_layer.Statement.{statement}
 use Rattle.cuberows.proofs.count_layer.Tie as tie
 
 abbrev Inv-loop : tie.InvT-loop
-Inv-loop counts sides z masks at₀ sum₀ at sum = Stands sides z at × Within sides (firstX sides at) (at .y) × (sum ≡ countedTo sides masks z (firstX sides at) (at .y))
+Inv-loop counts sides z masks found at₀ sum₀ at sum = Stands sides z at × Within sides (firstX sides at) (at .y) × (sum ≡ countedTo sides masks z (firstX sides at) (at .y))
 
 abbrev μ-loop : tie.MeasureT-loop
-μ-loop counts sides z masks at₀ sum₀ at sum = length masks - at .word
+μ-loop counts sides z masks found at₀ sum₀ at sum = length masks - at .word
 
 first-requires : tie.Need-first-requires Inv-loop μ-loop
 first-requires c κs =
-    let s = c .before in
-    (s .pre .1 .0 .fit, (s .pre .1 .0 .words, (s .pre .1 .0 .from, omega (arith, s .pre .1 .1))))
+    let s = c .before .before in
+    (s .pre .1 .0 .fit, (s .pre .1 .0 .words, (s .pre .1 .0 .from, omega (arith, s .pre .1 .1 .0))))
 
 loop-holds : tie.Need-loop-holds Inv-loop μ-loop
 loop-holds c =
-    let s = c .before .before in
+    let s = c .before .before .before in
     let a = s .args in
     let ready = s .pre .1 .0 in
     let none : firstX (a .sides) (firstStretch (a .sides) (a .z)) ≡ 0 = omega arith in
@@ -38,23 +39,29 @@ loop-holds c =
     )
 
 add-if1 : tie.Need-add-if1 Inv-loop μ-loop
-add-if1 c = omega (arith, c .before .loop .inv .1 .0, c .before .before .before .before .pre .1 .0 .fit .most-y)
+add-if1 c = omega (arith, c .before .loop .inv .1 .0, c .before .before .before .before .before .pre .1 .0 .fit .most-y)
 
 -- from a turn back to the function's entry
 abbrev begun : tie.Then1 Inv-loop μ-loop → tie.Start Inv-loop μ-loop
-begun c = c .before .before .before .before .before .before
+begun c = c .before .before .before .before .before .before .before
 
 corners-at-requires : tie.Need-corners-at-requires Inv-loop μ-loop
 corners-at-requires c κs =
     let s = begun c in
     let l = c .before .before .before .loop in
-    corners-there (s .args .sides) (s .args .masks .now) (s .args .z) (s .pre .1 .0) (l .at) (l .inv .0) (c .if1 .taken) (s .pre .1 .1)
+    corners-there (s .args .sides) (s .args .masks .now) (s .args .z) (s .pre .1 .0) (l .at) (l .inv .0) (c .if1 .taken) (s .pre .1 .1 .0)
 
 cubes-mask-requires : tie.Need-cubes-mask-requires Inv-loop μ-loop
 cubes-mask-requires c κs = search needs
 
-busy-requires : tie.Need-busy-requires Inv-loop μ-loop
-busy-requires c κs = search needs
+busy-cubes-requires : tie.Need-busy-cubes-requires Inv-loop μ-loop
+busy-cubes-requires c κs =
+    let here = c .before .before in
+    let s = begun here in
+    let a = s .args in
+    let l = here .before .before .before .loop in
+    rw (c .before .corners-at .ensures, c .cubes-mask .ensures)
+    (row-found (a .sides) (a .masks .now) (a .z) (s .pre .1 .0) (l .at) (l .inv .0) (here .if1 .taken) (s .pre .1 .1 .0) (a .found .now) (s .pre .1 .1 .1))
 
 count-stretch-requires : tie.Need-count-stretch-requires Inv-loop μ-loop
 count-stretch-requires c κs = begun (c .before .before .before) .pre .0
@@ -72,15 +79,15 @@ added c =
     let l = here .before .before .before .loop in
     let corners = c .before .before .before .corners-at .ensures in
     let mask = c .before .before .cubes-mask .ensures in
-    let busy : BusyCubes (cornersAt (a .masks .now) (a .sides .words) (a .sides .ny) (l .at .word)) (cubesMask (a .sides) (l .at .left)) (c .before .busy .result)
-    = rw (← corners, ← mask) (c .before .busy .ensures) in
-    let mine = ap (λ m. stretchCount m (c .before .busy .result)) corners in
+    let busy : BusyCubes (cornersAt (a .masks .now) (a .sides .words) (a .sides .ny) (l .at .word)) (cubesMask (a .sides) (l .at .left)) (c .before .busy-cubes .result)
+    = rw (← corners, ← mask) (c .before .busy-cubes .ensures) in
+    let mine = ap (λ m. stretchCount m (c .before .busy-cubes .result)) corners in
     omega (
       arith,
       l .inv .2,
       c .count-stretch .ensures,
       mine,
-      stretch-count (a .sides) (a .masks .now) (a .z) (s .pre .1 .0) (l .at) (l .inv .0) (here .if1 .taken) (s .pre .1 .1) (c .before .busy .result) busy,
+      stretch-count (a .sides) (a .masks .now) (a .z) (s .pre .1 .0) (l .at) (l .inv .0) (here .if1 .taken) (s .pre .1 .1 .0) (c .before .busy-cubes .result) busy,
       sum-split (firstX (a .sides) (l .at)) (ownCubes (l .at .left)) (λ x. count (cubeCase (a .sides) (a .masks .now) (a .z) x (l .at .y))),
     )
 
@@ -107,7 +114,7 @@ next-requires c κs =
     let here = c .before .before .before .before in
     let s = begun here in
     let l = here .before .before .before .loop in
-    stretch-addable (s .args .sides) (s .args .z) (l .at) (l .inv .0) (l .inv .1 .0) (omega (arith, s .pre .1 .1)) (s .pre .1 .0 .fit)
+    stretch-addable (s .args .sides) (s .args .z) (l .at) (l .inv .0) (l .inv .1 .0) (omega (arith, s .pre .1 .1 .0)) (s .pre .1 .0 .fit)
 
 loop-less : tie.Need-loop-less Inv-loop μ-loop
 loop-less c =
@@ -134,7 +141,7 @@ loop-again c =
 
 returns : tie.Need-returns Inv-loop μ-loop
 returns c =
-    let s = c .before .before .before .before .before .before in
+    let s = c .before .before .before .before .before .before .before in
     let a = s .args in
     let l = c .before .before .before .loop in
     let last : l .at .y ≡ a .sides .ny - 1 = omega (arith, l .inv .1 .0, c .if1 .left) in
@@ -152,7 +159,7 @@ count-layer-spec =
     add-if1
     corners-at-requires
     cubes-mask-requires
-    busy-requires
+    busy-cubes-requires
     count-stretch-requires
     add-sum
     next-requires

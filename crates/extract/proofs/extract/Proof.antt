@@ -4,8 +4,11 @@ use mathlib.Core.Bool.{true}
 use native.Mathlib.Omega.{arith}
 use borrow.Author.Tests.{not-true, not-false}
 use Rattle.grid.specs.Sides.{sidesFit}
+use Rattle.grid.specs.Grid.{isAboveGrey}
 use Rattle.grid.specs.Mode.{cubes}
+use Rattle.grid.specs.Work.{size}
 use Rattle.grid.proofs.Sides.{sides-within, rows-most, samples-most}
+use Rattle.cuberows.proofs.Found.{none-owed}
 use Rattle.extract.specs.Extraction.{Rooms}
 use Rattle.extract.specs.Promise.{rooms}
 use Rattle.extract.proofs.Refusals.{refused-sides, refused-samples, refused-work, past-lengths}
@@ -75,12 +78,17 @@ returns-3 c =
     rw (c .refused3 .ensures .0, c .refused3 .ensures .1, c .refused3 .ensures .2)
     (refused-work cubes (a .nx) (a .ny) (a .nz) (a .grey) (a .samples .now) (lent s) (fit e) (c .before .before .if2 .left) (c .before .if3 .taken))
 
+slice-aggregate-measured : tie.Need-slice-aggregate-measured
+slice-aggregate-measured c = search needs
+
 measured-requires : tie.Need-measured-requires
 measured-requires c κs =
-    let l = c .before .before .before .before .before in
+    let l = c .before .before .before .before .before .before in
     let e = l .before .before in
     let a = begun (e .before) .args in
-    (sides-within (a .nx) (a .ny) (a .nz) (fit e), (l .before .if2 .left, l .if3 .left))
+    let n = size (a .nx) (a .ny) (a .nz) in
+    let above = isAboveGrey (a .grey) (a .samples .now) in
+    (sides-within (a .nx) (a .ny) (a .nz) (fit e), (l .before .if2 .left, (l .if3 .left, λ z hz. none-owed n above z)))
 
 same-length : tie.Need-same-length
 same-length c = search needs
@@ -100,7 +108,7 @@ same-length-5 c = search needs
 returns-4 : tie.Need-returns-4
 returns-4 c =
     let m = c .before .before .before .before .before .before .before .before .before .before in
-    let l = m .before .before .before .before .before .before in
+    let l = m .before .before .before .before .before .before .before in
     let e = l .before .before in
     let s = begun (e .before) in
     let a = s .args in
@@ -121,6 +129,7 @@ extract-spec =
     mul-if3
     refused-requires-3
     returns-3
+    slice-aggregate-measured
     measured-requires
     same-length
     same-length-2

@@ -16,16 +16,17 @@ use Rattle.grid.proofs.Named.{mesh-named}
 use Rattle.masks.specs.Masks.{rowWords, mostWords, maskAbove, Agreeing}
 use Rattle.masks.proofs.Above.{told-agrees}
 use Rattle.rows.proofs.Stretches.{words-most}
+use Rattle.cuberows.specs.Cubes.{FoundCubes}
 use Rattle.extract.specs.Extraction.{Rooms}
 use Rattle.extract.specs.Promise.{rooms}
-use Rattle.extract.proofs.Ways.{too-many-points, too-many-triangles, all-granted, rooms-hold, triangles-hold}
+use Rattle.extract.proofs.Ways.{found-is, too-many-points, too-many-triangles, all-granted, rooms-hold, triangles-hold}
 use borrow.Author.Needs.{needs}
 use Rattle.extract.proofs.measured.Statement.{statement}
 use Rattle.extract.proofs.measured.Tie as tie
 
 -- the places on the way
 abbrev begun : tie.After-fill → tie.Start
-begun c = c .before .before .before .before .before .before .before .before .before
+begun c = c .before .before .before .before .before .before .before .before .before .before
 
 abbrev masked : tie.After-number → tie.After-fill
 masked c = c .before .before .before .before
@@ -59,7 +60,7 @@ room-is c =
     c .before .least2 .ensures ∙ ap (min (length (r .points) / 3)) (c .before .before .least .ensures)
 
 work-kept : (c : tie.After-number) → length (c .number .last .1 .1 .1 .1 .0) ≡ length (lent (begun (masked c)) .work)
-work-kept c = c .number .ensures .1 .whole ∙ sym (begun (masked c) .pre .1 .1)
+work-kept c = c .number .ensures .1 .whole ∙ sym (begun (masked c) .pre .1 .1 .0)
 
 -- each row has its words
 masks-long : (c : tie.After-fill) → length (c .fill .last .1 .1 .1 .1 .1 .0) ≡ mostWords
@@ -74,6 +75,15 @@ rows-masked c =
 agreeing : (c : tie.After-fill) → Agreeing (begun c .args .nx) (begun c .args .ny * begun c .args .nz) (c .fill .last .1 .1 .1 .1 .1 .0)
 agreeing c = let a = begun c .args in told-agrees (a .nx) (a .ny * a .nz) (isAboveGrey (a .grey) (a .samples .now)) _ (begun c .pre .0 .least-x) (c .fill .ensures)
 
+-- and words of found cubes that are lent are right for them
+found-right : (c : tie.After-fill)
+    → let a = begun c .args in
+    FoundCubes (size (a .nx) (a .ny) (a .nz)) (maskAbove (a .nx) (c .fill .last .1 .1 .1 .1 .1 .0)) (a .found .now)
+found-right c =
+    let s = begun c in
+    let a = s .args in
+    found-is (a .nx) (a .ny) (a .nz) (a .grey) (a .samples .now) (c .fill .last .1 .1 .1 .1 .1 .0) (s .pre .0) (c .fill .ensures) (a .found .now) (s .pre .1 .1 .1)
+
 -- points and triangles within their rooms
 points-fit : (c : tie.After-exceeds2) → ltb (min mostPoints (counted c .before .least2 .result)) (numbered (counted c) .number .result) ≡ false
 points-fit c = sym (counted c .exceeds .ensures) ∙ c .before .before .before .if1 .left
@@ -83,7 +93,7 @@ slice-aggregate-fill c = search needs
 
 mul-fill : tie.Need-mul-fill
 mul-fill c =
-    let s = c .before .before .before .before .before .before .before in
+    let s = c .before .before .before .before .before .before .before .before in
     omega (arith, rows-most (s .args .nx) (s .args .ny) (s .args .nz) (s .pre .0))
 
 slice-aggregate-fill-2 : tie.Need-slice-aggregate-fill-2
@@ -91,7 +101,7 @@ slice-aggregate-fill-2 c = search needs
 
 fill-requires : tie.Need-fill-requires
 fill-requires c κs =
-    let s = c .before .before .before .before .before .before .before .before in (
+    let s = c .before .before .before .before .before .before .before .before .before in (
       s .pre .0 .least-x,
       omega (arith, s .pre .0 .most-x),
       words-most (s .args .nx) (s .args .ny) (s .args .nz) (s .pre .0),
@@ -104,7 +114,7 @@ slice-aggregate-number c = sym (masks-long (c .before .before))
 number-requires : tie.Need-number-requires
 number-requires c κs =
     let f = c .before .before .before in
-    (begun f .pre .0, (rows-masked f, (agreeing f, begun f .pre .1 .1)))
+    (begun f .pre .0, (rows-masked f, (agreeing f, begun f .pre .1 .1 .0)))
 
 least-requires : tie.Need-least-requires
 least-requires c κs = search needs
@@ -146,7 +156,7 @@ slice-aggregate-count c = sym (masks-long (masked (numbered (c .before .before))
 count-requires : tie.Need-count-requires
 count-requires c κs =
     let f = masked (numbered (c .before .before)) in
-    (begun f .pre .0, (rows-masked f, agreeing f))
+    (begun f .pre .0, (rows-masked f, (agreeing f, found-right f)))
 
 exceeds-requires-2 : tie.Need-exceeds-requires-2
 exceeds-requires-2 c κs = search needs
@@ -213,9 +223,12 @@ write-requires c κs =
         (
           agreeing f,
           (
-            λ some. omega (arith, n .number .ensures .1 .whole),
-            triangles-hold (a .nx) (a .ny) (a .nz) (a .grey) (a .samples .now) (f .fill .last .1 .1 .1 .1 .1 .0) (s .pre .0) (f .fill .ensures)
-                (made .before .count .result) (length (a .triangles .now)) (made .before .count .ensures) (sym (made .exceeds2 .ensures) ∙ else .if2 .left),
+            found-right f,
+            (
+              λ some. omega (arith, n .number .ensures .1 .whole),
+              triangles-hold (a .nx) (a .ny) (a .nz) (a .grey) (a .samples .now) (f .fill .last .1 .1 .1 .1 .1 .0) (s .pre .0) (f .fill .ensures)
+                  (made .before .count .result) (length (a .triangles .now)) (made .before .count .ensures) (sym (made .exceeds2 .ensures) ∙ else .if2 .left),
+            ),
           ),
         ),
       ),

@@ -11,6 +11,7 @@ use Rattle.laws.specs.Mesh.{flat}
 use Rattle.laws.proofs.Sides.{length-corners}
 use Rattle.laws.proofs.Writes.{sets-front}
 use Rattle.rows.specs.Rows.{sizeOf, wordsAbove}
+use Rattle.cuberows.proofs.Found.{none-owed}
 use Rattle.triangles.specs.Names.{layerNames}
 use Rattle.triangles.proofs.Names.{written-length}
 use Rattle.triangles.proofs.Named.{edge-nameable}
@@ -34,6 +35,9 @@ edge-offsets-requires c κs = let fit = c .before .before .before .before .pre .
 slice-aggregate-write-layer : tie.Need-slice-aggregate-write-layer
 slice-aggregate-write-layer c = search needs
 
+slice-aggregate-write-layer-2 : tie.Need-slice-aggregate-write-layer-2
+slice-aggregate-write-layer-2 c = search needs
+
 -- the start, and what is written: the triangles' grid edges
 abbrev begun : tie.After-edge-offsets → tie.Start
 begun e = e .before .before .before .before .before
@@ -51,7 +55,7 @@ long e = let a = begun e .args in ap length (numbers e) ∙ length-corners (laye
 
 write-layer-requires : tie.Need-write-layer-requires
 write-layer-requires c κs =
-    let e = c .before .before .before .before .before in
+    let e = c .before .before .before .before .before .before in
     let s = begun e in
     let a = s .args in (
       e .before .before .rows .ensures,
@@ -61,13 +65,16 @@ write-layer-requires c κs =
           s .pre .0,
           (
             s .pre .1 .0,
-            record {
-              named = λ x y k hx hy h.
-                  edge-nameable (a .sides) (now (a .masks)) [] (e .edge-offsets .result) (e .edge-offsets .ensures) (s .pre .0 .fit) (λ some. absurd (some refl)) x y (a .sides .below) k hx hy
-                  (s .pre .1 .0)
-                  h;
-              holds = omega (arith, long e, s .pre .1 .1);
-            },
+            (
+              none-owed (sizeOf (a .sides)) (wordsAbove (a .sides) (now (a .masks))) (a .sides .below),
+              record {
+                named = λ x y k hx hy h.
+                    edge-nameable (a .sides) (now (a .masks)) [] (e .edge-offsets .result) (e .edge-offsets .ensures) (s .pre .0 .fit) (λ some. absurd (some refl)) x y (a .sides .below) k hx hy
+                    (s .pre .1 .0)
+                    h;
+                holds = omega (arith, long e, s .pre .1 .1);
+              },
+            ),
           ),
         ),
       ),
@@ -75,17 +82,17 @@ write-layer-requires c κs =
 
 -- where the writing ended
 end : (c : tie.After-slice-known2)
-    → let e = c .before .before .before .before .before .before .before .before in
+    → let e = c .before .before .before .before .before .before .before .before .before in
     let a = begun e .args in
     c .before .before .write-layer .result ≡ 3 * triangleCount (a .sides) (now (a .masks))
 end c =
-    let e = c .before .before .before .before .before .before .before .before in
+    let e = c .before .before .before .before .before .before .before .before .before in
     omega (arith, c .before .before .write-layer .ensures .end, long e)
 
 cast-result : tie.Need-cast-result
 unfolding triangleCount
 cast-result c =
-    let s = begun (c .before .before .before .before .before .before .before .before) in
+    let s = begun (c .before .before .before .before .before .before .before .before .before) in
     let a = s .args in
     omega (arith, end c, triangles-most (sizeOf (a .sides)) (wordsAbove (a .sides) (now (a .masks))) (a .sides .below), layer-most (s .pre .0 .fit))
 
@@ -94,7 +101,7 @@ same-length c = written-length (c .before .before .write-layer .ensures)
 
 returns : tie.Need-returns
 returns c =
-    let e = c .before .before .before .before .before .before .before .before in
+    let e = c .before .before .before .before .before .before .before .before .before in
     let s = begun e in
     let a = s .args in
     let room = now (a .triangles) in (
@@ -110,6 +117,7 @@ hand-triangles-spec =
     counts-requires
     edge-offsets-requires
     slice-aggregate-write-layer
+    slice-aggregate-write-layer-2
     write-layer-requires
     cast-result
     same-length

@@ -8,6 +8,7 @@ use borrow.Author.Tests.{not-true}
 use Rattle.laws.proofs.Tests.{both}
 use Rattle.grid.specs.Limits.{mostPoints, mostTriangles}
 use Rattle.rows.specs.Rows.{sizeOf, wordsAbove}
+use Rattle.cuberows.proofs.Found.{none-owed}
 use Rattle.layerparts.specs.Parts.{tooMany, wordEdges, triangleCount}
 use Rattle.layerparts.proofs.Most.{fewer, refused-points, refused-triangles, refused-none}
 use Rattle.layerparts.proofs.Counted.{layer-count, points-most, triangles-most}
@@ -40,11 +41,11 @@ points-tested c =
     sym (ap (tooMany mostPoints (a .head .points) (a .room)) (c .before .count-points .ensures)) ∙ sym (c .exceeds .ensures)
 
 triangles-tested : (c : tie.After-exceeds2)
-    → let a = c .before .before .before .before .before .before .before .before .before .before .args in
+    → let a = c .before .before .before .before .before .before .before .before .before .before .before .args in
     tooMany mostTriangles (a .head .triangles) (a .triangle-room) (triangleCount (a .sides) (now (a .masks))) ≡ c .exceeds2 .result
 unfolding triangleCount
 triangles-tested c =
-    let a = c .before .before .before .before .before .before .before .before .before .before .args in
+    let a = c .before .before .before .before .before .before .before .before .before .before .before .args in
     let made = c .before .count-layer .ensures ∙ layer-count (a .sides) (now (a .masks)) (a .sides .below) in
     sym (ap (tooMany mostTriangles (a .head .triangles) (a .triangle-room)) made) ∙ sym (c .exceeds2 .ensures)
 
@@ -56,21 +57,24 @@ returns-2 c =
 counts-requires : tie.Need-counts-requires
 counts-requires c κs = search needs
 
+slice-aggregate-count-layer : tie.Need-slice-aggregate-count-layer
+slice-aggregate-count-layer c = search needs
+
 count-layer-requires : tie.Need-count-layer-requires
-count-layer-requires c κs = let pre = c .before .before .before .before .before .before .before .before .pre in (c .before .counts .ensures, pre)
+count-layer-requires c κs = let pre = c .before .before .before .before .before .before .before .before .before .pre in (c .before .before .counts .ensures, (pre .0, (pre .1, none-owed _ _ _)))
 
 exceeds-requires-2 : tie.Need-exceeds-requires-2
 exceeds-requires-2 c κs = search needs
 
 returns-3 : tie.Need-returns-3
 returns-3 c =
-    let few = c .before .before .before .before .before in
+    let few = c .before .before .before .before .before .before in
     let a = few .before .before .before .before .before .before .args in
     refused-triangles (a .head) (a .room) (a .triangle-room) _ _ (points-tested (few .before) ∙ few .if2 .left) (triangles-tested (c .before) ∙ c .if3 .taken)
 
 returns-4 : tie.Need-returns-4
 returns-4 c =
-    let few = c .before .before .before .before .before in
+    let few = c .before .before .before .before .before .before in
     let a = few .before .before .before .before .before .before .args in
     refused-none (a .head) (a .room) (a .triangle-room) _ _ (points-tested (few .before) ∙ few .if2 .left) (triangles-tested (c .before) ∙ c .if3 .left)
 
@@ -84,6 +88,7 @@ refusal-spec =
     exceeds-requires
     returns-2
     counts-requires
+    slice-aggregate-count-layer
     count-layer-requires
     exceeds-requires-2
     returns-3

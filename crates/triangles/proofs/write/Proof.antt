@@ -17,11 +17,11 @@ use Rattle.triangles.proofs.write.Statement.{statement}
 use Rattle.triangles.proofs.write.Tie as tie
 
 abbrev Inv-loop : tie.InvT-loop
-Inv-loop nx ny nz masks names triangles₀ table counts offsets sides last to₀ z₀ triangles to z =
+Inv-loop nx ny nz masks found names triangles₀ table counts offsets sides last to₀ z₀ triangles to z =
     (z ≤ nz - 1) × Written triangles₀ triangles 0 (joinTo z (layerNames offsets names sides masks)) to
 
 abbrev μ-loop : tie.MeasureT-loop
-μ-loop nx ny nz masks names triangles₀ table counts offsets sides last to₀ z₀ triangles to z = nz - 1 - z
+μ-loop nx ny nz masks found names triangles₀ table counts offsets sides last to₀ z₀ triangles to z = nz - 1 - z
 
 rows-requires : tie.Need-rows-requires Inv-loop μ-loop
 rows-requires c κs = search needs
@@ -30,20 +30,20 @@ counts-requires : tie.Need-counts-requires Inv-loop μ-loop
 counts-requires c κs = search needs
 
 edge-offsets-requires : tie.Need-edge-offsets-requires Inv-loop μ-loop
-edge-offsets-requires c κs = let fit = c .before .before .before .before .before .pre .0 in (fit .most-x, fit .most-y)
+edge-offsets-requires c κs = let fit = c .before .before .before .before .before .before .pre .0 in (fit .most-x, fit .most-y)
 
 row-words-requires : tie.Need-row-words-requires Inv-loop μ-loop
-row-words-requires c κs = omega (arith, c .before .before .before .before .before .before .pre .0 .least-x)
+row-words-requires c κs = omega (arith, c .before .before .before .before .before .before .before .pre .0 .least-x)
 
 last-mask-requires : tie.Need-last-mask-requires Inv-loop μ-loop
-last-mask-requires c κs = omega (arith, c .before .before .before .before .before .before .before .pre .0 .least-x)
+last-mask-requires c κs = omega (arith, c .before .before .before .before .before .before .before .before .pre .0 .least-x)
 
 sub-last : tie.Need-sub-last Inv-loop μ-loop
-sub-last c = omega (arith, c .before .before .before .before .before .before .before .before .pre .0 .least-z)
+sub-last c = omega (arith, c .before .before .before .before .before .before .before .before .before .pre .0 .least-z)
 
 -- the sides as the layers are given them, and what is written for each
 abbrev begun : tie.After-last-mask Inv-loop μ-loop → tie.Start Inv-loop μ-loop
-begun c = c .before .before .before .before .before .before .before .before
+begun c = c .before .before .before .before .before .before .before .before .before
 
 abbrev sides : tie.After-last-mask Inv-loop μ-loop → Sides
 sides c =
@@ -63,7 +63,7 @@ loop-holds c = (omega arith, rw (join-zero (layerOf c)) (written-none _ _))
 all-fits : (c : tie.After-last-mask Inv-loop μ-loop) → 0 + length (joinTo (begun c .args .nz - 1) (layerOf c)) ≤ length (begun c .args .triangles .now)
 all-fits c =
     let s = begun c in
-    omega (arith, grid-length (sides c) (s .args .masks .now) (s .args .names .now) (offsets c) (c .before .before .edge-offsets .ensures), s .pre .1 .1 .1 .1)
+    omega (arith, grid-length (sides c) (s .args .masks .now) (s .args .names .now) (offsets c) (c .before .before .edge-offsets .ensures), s .pre .1 .1 .1 .1 .1)
 
 room-here : (c : tie.In-loop Inv-loop μ-loop)
     → let m = c .before .before in
@@ -75,7 +75,7 @@ room-here c =
     let l = c .before .loop in
     record {
       named = λ x y e hx hy h.
-          edge-nameable (sides m) (s .args .masks .now) (s .args .names .now) (offsets m) (m .before .before .edge-offsets .ensures) (s .pre .0) (s .pre .1 .1 .1 .0) x y (l .z) e hx hy (omega (arith, c)) h;
+          edge-nameable (sides m) (s .args .masks .now) (s .args .names .now) (offsets m) (m .before .before .edge-offsets .ensures) (s .pre .0) (s .pre .1 .1 .1 .1 .0) x y (l .z) e hx hy (omega (arith, c)) h;
       holds = written-room (joinTo (l .z) (layerOf m)) _ _ (l .inv .1) (join-room (l .z) (s .args .nz - 1) (layerOf m) (omega (arith, c))) (all-fits m);
     }
 
@@ -89,7 +89,7 @@ write-layer-requires c κs =
         c .before .before .before .before .before .before .before .before .before .counts .ensures,
         (
           whole-ready (sides m) (s .args .masks .now) refl (s .pre .0) (m .before .row-words .ensures) (m .last-mask .ensures) (s .pre .1 .0) (s .pre .1 .1 .0) (here .before .loop .z) (omega (arith, here)),
-          (omega (arith, here), room-here here),
+          (omega (arith, here), (s .pre .1 .1 .1 .0 (here .before .loop .z) (omega (arith, here)), room-here here)),
         ),
       ),
     )
@@ -124,7 +124,7 @@ returns c =
     let last : l .z ≡ s .args .nz - 1 = omega arith in
     grid-laid (sides m) (s .args .masks .now) (s .args .names .now) (offsets m) (m .before .before .edge-offsets .ensures)
     (subst (λ n. Written (s .args .triangles .now) (l .triangles) 0 (joinTo n (layerOf m)) (l .to)) last (l .inv .1))
-    (s .pre .1 .1 .1 .1)
+    (s .pre .1 .1 .1 .1 .1)
 
 pub write-spec : {M : Type 1} → statement M
 write-spec =

@@ -9,6 +9,7 @@ use Rattle.rows.specs.Rows.{Stands, firstX, cubesMask, firstStretch}
 use Rattle.rows.proofs.Stretches.{stands-first, sample-there, word-there, stretch-addable}
 use Rattle.cuberows.specs.Cubes.{cornersAt, BusyCubes}
 use Rattle.cuberows.proofs.Layers.{Within, corners-there}
+use Rattle.cuberows.proofs.Found.{row-found}
 use Rattle.triangles.specs.Walk.{Written}
 use Rattle.triangles.proofs.Names.{written-none, written-length}
 use Rattle.triangles.proofs.Layers.{namedTo, named-none, named-all, stretch-room, stretch-next}
@@ -16,20 +17,20 @@ use Rattle.triangles.proofs.write_layer.Statement.{statement}
 use Rattle.triangles.proofs.write_layer.Tie as tie
 
 abbrev Inv-loop : tie.InvT-loop
-Inv-loop rows counts offsets masks names triangles₀ sides z from at₀ to₀ triangles at to =
+Inv-loop rows counts offsets masks found names triangles₀ sides z from at₀ to₀ triangles at to =
     Stands sides z at × Within sides (firstX sides at) (at .y) × Written triangles₀ triangles from (namedTo offsets names sides masks z (firstX sides at) (at .y)) to
 
 abbrev μ-loop : tie.MeasureT-loop
-μ-loop rows counts offsets masks names triangles₀ sides z from at₀ to₀ triangles at to = length masks - at .word
+μ-loop rows counts offsets masks found names triangles₀ sides z from at₀ to₀ triangles at to = length masks - at .word
 
 first-requires : tie.Need-first-requires Inv-loop μ-loop
 first-requires c κs =
-    let pre = c .before .before .before .pre .1 .1 in
+    let pre = c .before .before .before .before .pre .1 .1 in
     (pre .0 .fit, (pre .0 .words, (pre .0 .from, omega (arith, pre .1 .0))))
 
 loop-holds : tie.Need-loop-holds Inv-loop μ-loop
 loop-holds c =
-    let s = c .before .before .before .before in
+    let s = c .before .before .before .before .before in
     let a = s .args in
     let ready = s .pre .1 .1 .0 in
     let none : firstX (a .sides) (firstStretch (a .sides) (a .z)) ≡ 0 = omega arith in
@@ -43,11 +44,11 @@ loop-holds c =
     )
 
 add-if1 : tie.Need-add-if1 Inv-loop μ-loop
-add-if1 c = omega (arith, c .before .loop .inv .1 .0, c .before .before .before .before .before .before .pre .1 .1 .0 .fit .most-y)
+add-if1 c = omega (arith, c .before .loop .inv .1 .0, c .before .before .before .before .before .before .before .pre .1 .1 .0 .fit .most-y)
 
 -- from a turn back to the function's entry
 abbrev begun : tie.Then1 Inv-loop μ-loop → tie.Start Inv-loop μ-loop
-begun c = c .before .before .before .before .before .before .before .before
+begun c = c .before .before .before .before .before .before .before .before .before
 
 corners-at-requires : tie.Need-corners-at-requires Inv-loop μ-loop
 corners-at-requires c κs =
@@ -58,8 +59,15 @@ corners-at-requires c κs =
 cubes-mask-requires : tie.Need-cubes-mask-requires Inv-loop μ-loop
 cubes-mask-requires c κs = search needs
 
-busy-requires : tie.Need-busy-requires Inv-loop μ-loop
-busy-requires c κs = search needs
+busy-cubes-requires : tie.Need-busy-cubes-requires Inv-loop μ-loop
+busy-cubes-requires c κs =
+    let here = c .before .before in
+    let s = begun here in
+    let a = s .args in
+    let l = here .before .before .before .loop in
+    let pre = s .pre .1 .1 in
+    rw (c .before .corners-at .ensures, c .cubes-mask .ensures)
+    (row-found (a .sides) (a .masks .now) (a .z) (pre .0) (l .at) (l .inv .0) (here .if1 .taken) (pre .1 .0) (a .found .now) (pre .1 .1 .0))
 
 mul-edge : tie.Need-mul-edge Inv-loop μ-loop
 mul-edge c =
@@ -75,12 +83,12 @@ mul-edge c =
     )
 
 -- the busy cubes of the grid's words
-busy-is : (c : tie.After-busy Inv-loop μ-loop)
+busy-is : (c : tie.After-busy-cubes Inv-loop μ-loop)
     → let here = c .before .before .before in
     let a = begun here .args in
     let at = here .before .before .before .loop .at in
-    BusyCubes (cornersAt (a .masks .now) (a .sides .words) (a .sides .ny) (at .word)) (cubesMask (a .sides) (at .left)) (c .busy .result)
-busy-is c = rw (← (c .before .before .corners-at .ensures), ← (c .before .cubes-mask .ensures)) (c .busy .ensures)
+    BusyCubes (cornersAt (a .masks .now) (a .sides .words) (a .sides .ny) (at .word)) (cubesMask (a .sides) (at .left)) (c .busy-cubes .result)
+busy-is c = rw (← (c .before .before .corners-at .ensures), ← (c .before .cubes-mask .ensures)) (c .busy-cubes .ensures)
 
 write-stretch-requires : tie.Need-write-stretch-requires Inv-loop μ-loop
 write-stretch-requires c κs =
@@ -94,12 +102,12 @@ write-stretch-requires c κs =
       (
         s .pre .1 .0,
         stretch-room (a .offsets .now) (a .names .now) (a .sides) (a .masks .now) (a .z) (pre .0) (l .at) (l .inv .0) (here .if1 .taken) (pre .1 .0)
-            (busy .busy .result)
+            (busy .busy-cubes .result)
             (busy-is busy)
             (l .inv .2)
             (c .before .before .before .before .corners-at .result)
             (c .before .before .before .before .corners-at .ensures)
-            (pre .1 .1),
+            (pre .1 .1 .1),
       ),
     )
 
@@ -126,7 +134,7 @@ loop-again c =
     let l = here .before .before .before .loop in
     let pre = s .pre .1 .1 in
     stretch-next (a .offsets .now) (a .names .now) (a .sides) (a .masks .now) (a .z) (pre .0) (l .at) (l .inv .0) (here .if1 .taken) (pre .1 .0)
-    (busy .busy .result)
+    (busy .busy-cubes .result)
     (busy-is busy)
     (l .inv .2)
     (c .before .before .before .before .before .before .before .before .corners-at .result)
@@ -140,7 +148,7 @@ same-length c = written-length (c .before .before .before .loop .inv .2)
 
 returns : tie.Need-returns Inv-loop μ-loop
 returns c =
-    let s = c .before .before .before .before .before .before .before .before in
+    let s = c .before .before .before .before .before .before .before .before .before in
     let a = s .args in
     let l = c .before .before .before .loop in
     let last : l .at .y ≡ a .sides .ny - 1 = omega (arith, l .inv .1 .0, c .if1 .left) in
@@ -161,7 +169,7 @@ write-layer-spec =
     add-if1
     corners-at-requires
     cubes-mask-requires
-    busy-requires
+    busy-cubes-requires
     mul-edge
     write-stretch-requires
     next-requires

@@ -1,0 +1,3 @@
+-- What the functions' proofs cite: rows that are filled; differences that are gathered.
+pub mod Filled
+pub mod Apart

@@ -1,0 +1,2 @@
+-- What one row of blocks is made of.
+pub mod Numbers

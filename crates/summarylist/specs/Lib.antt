@@ -1,0 +1,2 @@
+-- What the parts that build and compare promise each other.
+pub mod Rows
