@@ -1,3 +1,2 @@
 -- What the functions' proofs cite: rows that are filled; differences that are gathered.
 pub mod Filled
-pub mod Apart

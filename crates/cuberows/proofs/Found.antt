@@ -7,11 +7,9 @@ use native.Mathlib.Omega.{arith}
 use borrow.Author.Tests.{lt-ltb, ltb-true, le-leb}
 use lib.ListN.{length}
 use Rattle.laws.specs.Bits.{wordBits}
-use Rattle.cube.specs.Cube.{cornerX, cornerY, cornerZ, caseOf}
 use Rattle.cube.specs.Answer.{count}
 use Rattle.grid.specs.Grid.{Size, sampleCount}
-use Rattle.grid.specs.Mesh.{cornerSite, caseAt}
-use Rattle.grid.proofs.Sites.{site-small}
+use Rattle.grid.proofs.Same.{case-same}
 use Rattle.masks.specs.Masks.{wordCubes}
 use Rattle.rows.specs.declared.Sides.{Sides}
 use Rattle.rows.specs.declared.Stretch.{Stretch}
@@ -50,16 +48,8 @@ module _ (sides : Sides) (masks : List ℕ) (z : ℕ) (ready : Ready sides z mas
         };
       }
 
-module _ (n : Size) (above other : ℕ → Bool) (same : (s : ℕ) → s < sampleCount n → above s ≡ other s) where
-  -- the corners of a cube stand in the grid
-  case-same : (x y z : ℕ) → x + 1 < n .nx → y + 1 < n .ny → z + 1 < n .nz → caseAt n above x y z ≡ caseAt n other x y z
-  unfolding caseAt caseOf cornerSite
-  case-same x y z hx hy hz =
-      let at : (c : ℕ) → above (cornerSite n x y z c) ≡ other (cornerSite n x y z c)
-      = λ c. same (cornerSite n x y z c) (site-small n (x + cornerX c) (y + cornerY c) (z + cornerZ c) (omega arith) (omega arith) (omega arith)) in
-      rw (at 0, at 1, at 2, at 3, at 4, at 5, at 6, at 7)
-
+module _ (n : Size) (px : 0 < n .nx) (py : 0 < n .ny) (above other : ℕ → Bool) (same : (s : ℕ) → s < sampleCount n → above s ≡ other s) where
   pub found-same : (found : List ℕ) → FoundCubes n other found → FoundCubes n above found
   found-same found by z hz some =
       let here = by z hz some in
-      record { listed = here .listed; inside = here .inside; quiet = λ x y hx hy clear. ap count (case-same x y z hx hy hz) ∙ here .quiet x y hx hy clear }
+      record { listed = here .listed; inside = here .inside; quiet = λ x y hx hy clear. ap count (case-same n px py above other same x y z (omega arith) (omega arith) (omega arith)) ∙ here .quiet x y hx hy clear }

@@ -32,7 +32,8 @@ module _ (nx ny nz grey : ℕ) (samples masks : List ℕ) (fits : SidesFit nx ny
 
   -- so words of found cubes that are right for the samples are right for the masks
   pub found-is : (found : List ℕ) → FoundCubes (size nx ny nz) (isAboveGrey grey samples) found → FoundCubes (size nx ny nz) (maskAbove nx masks) found
-  found-is = found-same (size nx ny nz) (maskAbove nx masks) (isAboveGrey grey samples) same
+  found-is =
+      found-same (size nx ny nz) (omega (arith, fits .least-x)) (omega (arith, fits .least-y)) (maskAbove nx masks) (isAboveGrey grey samples) same
 
   pub points-are : (r : Rooms) → masksPoints ≡ pointList cubes (size nx ny nz) grey samples r
   points-are r =

@@ -29,7 +29,7 @@ module _ (n : Size) (px : 0 < n .nx) (py : 0 < n .ny) (above other : ℕ → Boo
   unfolding cornerSite
   corner-small x y z hx hy hz c = site-small n (x + c % 2) (y + c / 2 % 2) (z + c / 4 % 2) (omega arith) (omega arith) (omega arith)
 
-  case-same : (x y z : ℕ) → x < n .nx - 1 → y < n .ny - 1 → z < n .nz - 1 → caseAt n above x y z ≡ caseAt n other x y z
+  pub case-same : (x y z : ℕ) → x < n .nx - 1 → y < n .ny - 1 → z < n .nz - 1 → caseAt n above x y z ≡ caseAt n other x y z
   unfolding caseAt caseOf
   case-same x y z hx hy hz =
       let at : (c : ℕ) → above (cornerSite n x y z c) ≡ other (cornerSite n x y z c)

@@ -2,6 +2,7 @@
 pub mod Tests
 pub mod Ranges
 pub mod Box
+pub mod Boxes
 pub mod Keep
 pub mod Parted
 pub mod Rows

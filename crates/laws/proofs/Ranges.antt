@@ -4,13 +4,13 @@ use mathlib.Core.List.{List, [], _∷_, _++_, map, flatMap, append-assoc, append
 use mathlib.Core.Bool.{Bool, false, cond, _||_}
 use Prim.Native.Nat.{ℕ, zero, suc, _+_, _*_, _-_, _<_, _≤_}
 use native.Mathlib.Decide.{decLt}
-use native.Mathlib.Nat.{mul-suc, mul-zero, add-zero, add-suc}
+use native.Mathlib.Nat.{mul-add, mul-suc, mul-zero, add-zero, add-suc}
 use native.Mathlib.Numerals.{add-one}
 use native.Mathlib.Omega.{arith}
 use lib.Dec.{eqb}
 use borrow.Author.Tests.{eq-eqb, ne-eqb}
-use lib.ListN.{length, getD, take, length-append}
-use lib.Seq.{take-suc, take-all}
+use lib.ListN.{length, getD, take, length-append, List·getD-append}
+use lib.Seq.{take-suc, take-all, getD-append-add}
 use Rattle.laws.specs.Range.{sumTo, joinTo, countTo, keepTo, someTo, one-if}
 use Rattle.laws.proofs.Binary.{bit-le}
 
@@ -209,3 +209,27 @@ join-first n f =
 -- a join of lists that are all empty
 pub join-empty : {A : Type 0} (n : ℕ) (f : ℕ → List A) → ((i : ℕ) → f i ≡ []) → joinTo n f ≡ []
 join-empty n f e = join-quiet 0 n f (omega arith) (λ i a b. e i) ∙ join-zero f
+
+-- a term is at most the sum
+pub term-le : (n i : ℕ) (f : ℕ → ℕ) → i < n → f i ≤ sumTo n f
+unfolding sumTo
+term-le zero i f l = absurd (omega arith)
+term-le (suc n) i f l = go (decLt i n) (λ l′. term-le n i f l′)
+  where
+    go : Dec (i < n) → (i < n → f i ≤ sumTo n f) → f i ≤ sumTo n f + f n
+    go (yes l′) below = omega (arith, below l′)
+    go (no ge) below = let e : i ≡ n = omega arith in rw e (omega arith)
+
+-- terms that are at most so many times others
+pub sum-times : (k n : ℕ) (f g : ℕ → ℕ) → ((i : ℕ) → i < n → f i ≤ k * g i) → sumTo n f ≤ k * sumTo n g
+unfolding sumTo
+sum-times k zero f g h = omega arith
+sum-times k (suc n) f g h = omega (arith, sum-times k n f g (λ i l. h i (omega arith)), h n (omega arith), mul-add k (sumTo n g) (g n))
+
+-- an entry of a part of a join
+pub join-entry : {A : Type 0} (m i q : ℕ) (f : ℕ → List A) (d : A) → i < m → q < length (f i) → getD (joinTo m f) (length (joinTo i f) + q) d ≡ getD (f i) q d
+join-entry m i q f d l lq =
+    let e : m ≡ i + 1 + (m - (i + 1)) = omega arith in
+    rw (e, join-split (i + 1) (m - (i + 1)) f, join-next i f)
+    (List·getD-append (joinTo i f ++ f i) (joinTo (m - (i + 1)) (λ k. f (i + 1 + k))) d (length (joinTo i f) + q) (rw (length-append (joinTo i f) (f i)) (omega arith))
+    ∙ getD-append-add (joinTo i f) (f i) q d)

@@ -1,9 +1,10 @@
 -- Tests that some number of a range passes, and that something is in a list; sums over what passes and over the places of a list.
 use mathlib.Core.Path.{_≡_, refl, ap, ap₂, sym, _∙_}
 use mathlib.Core.List.{List, [], _∷_, _++_}
-use mathlib.Core.Bool.{Bool, true, false, cond, _||_, or-comm, or-assoc, false≢true}
+use mathlib.Core.Bool.{Bool, true, false, cond, _||_, _&&_, or-comm, or-assoc, or-true, and-or-distrib-right, false≢true}
 use mathlib.Core.Logic.{⊎-elim}
 use Prim.Native.Nat.{ℕ, zero, suc, _+_, _<_}
+use native.Mathlib.Decide.{decLt}
 use native.Mathlib.Omega.{arith}
 use lib.ListN.{length, getD}
 use Rattle.laws.specs.Range.{sumTo, joinTo, keepTo, someTo}
@@ -80,3 +81,24 @@ sum-places f d (x ∷ xs) = sum-first (length xs) (λ k. f (getD (x ∷ xs) k d)
     sum-first : (n : ℕ) (g : ℕ → ℕ) → sumTo (suc n) g ≡ g 0 + sumTo n (λ k. g (suc k))
     sum-first zero g = omega arith
     sum-first (suc n) g = omega (arith, sum-first n g)
+
+-- one that passes, and none that does
+pub some-true : (n : ℕ) (p : ℕ → Bool) (i : ℕ) → i < n → p i ≡ true → someTo n p ≡ true
+unfolding someTo
+some-true zero p i l h = absurd (omega arith)
+some-true (suc n) p i l h = go (decLt i n) (λ l′. some-true n p i l′ h)
+  where
+    go : Dec (i < n) → (i < n → someTo n p ≡ true) → (p n || someTo n p) ≡ true
+    go (yes l′) below = rw (below l′) (or-true (p n))
+    go (no ge) below = let e : n ≡ i = omega arith in rw (e, h)
+
+pub some-false : (n : ℕ) (p : ℕ → Bool) → ((i : ℕ) → i < n → p i ≡ false) → someTo n p ≡ false
+unfolding someTo
+some-false zero p h = refl
+some-false (suc n) p h = rw (h n (omega arith)) (some-false n p (λ i l. h i (omega arith)))
+
+-- a test that is the same for all numbers apart
+pub some-and : (n : ℕ) (p : ℕ → Bool) (t : Bool) → someTo n (λ h. p h && t) ≡ (someTo n p && t)
+unfolding someTo
+some-and zero p t = refl
+some-and (suc n) p t = ap (λ u. p n && t || u) (some-and n p t) ∙ sym (and-or-distrib-right (p n) (someTo n p) t)

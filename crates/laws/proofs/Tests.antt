@@ -66,6 +66,10 @@ pub all-more : (n : ℕ) (p : ℕ → Bool) → allTo n p ≡ true → p n ≡ t
 unfolding allTo
 all-more n p h t = rw (add-one n) (rw (t, h))
 
+pub all-next : (n : ℕ) (p : ℕ → Bool) → allTo (n + 1) p ≡ (p n && allTo n p)
+unfolding allTo
+all-next n p = rw (add-one n)
+
 pub all-fails : (n k : ℕ) (p : ℕ → Bool) → k < n → p k ≡ false → allTo n p ≡ false
 unfolding allTo
 all-fails zero k p l f = absurd (omega arith)

@@ -1,7 +1,7 @@
 -- The values of a function at the numbers below n: how many, each in its place, and one more.
 use mathlib.Core.Path.{_≡_, refl, ap, sym, _∙_}
 use mathlib.Core.List.{List, [], _∷_, _++_, append-nil, flatMap}
-use Prim.Native.Nat.{ℕ, zero, suc, _+_, _<_}
+use Prim.Native.Nat.{ℕ, zero, suc, _+_, _<_, _-_, _≤_}
 use native.Mathlib.Decide.{decLt, ℕ-discrete}
 use native.Mathlib.Omega.{arith}
 use lib.ListN.{length, getD, set, drop, length-append, length-set, List·getD-append}
@@ -10,7 +10,7 @@ use Rattle.laws.specs.Range.{joinTo}
 use Rattle.laws.specs.Room.{laid}
 use Rattle.laws.specs.Values.{listTo}
 use Rattle.laws.proofs.Ranges.{join-next, join-cong, join-split, flat-join}
-use Rattle.laws.proofs.Rooms.{laid-next, laid-front, laid-whole}
+use Rattle.laws.proofs.Rooms.{laid-next, laid-front, laid-whole, laid-rest}
 
 module _ {A : Type 0} where
   pub list-next : (n : ℕ) (f : ℕ → A) → listTo (n + 1) f ≡ listTo n f ++ (f n ∷ [])
@@ -62,6 +62,11 @@ module _ {A : Type 0} where
 
   pub laid-at : (n i : ℕ) (f : ℕ → A) (room : List A) (d : A) → i < n → getD (laid (listTo n f) room) i d ≡ f i
   laid-at n i f room d l = laid-front (listTo n f) room i d (omega (arith, length-list n f)) ∙ list-at n i f d l
+
+  pub laid-past : (n i : ℕ) (f : ℕ → A) (room : List A) (d : A) → n ≤ i → getD (laid (listTo n f) room) i d ≡ getD room i d
+  laid-past n i f room d l =
+      let e : i ≡ length (listTo n f) + (i - n) = omega (arith, length-list n f) in
+      rw e (laid-rest (listTo n f) room (i - n) d)
 
   -- one value changed, there and nowhere else
   pub list-change : (n i : ℕ) (f g : ℕ → A) → i < n → ((k : ℕ) → (k ≡ i → ⊥) → g k ≡ f k) → set (listTo n f) i (g i) ≡ listTo n g

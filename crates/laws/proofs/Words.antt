@@ -1,15 +1,17 @@
--- The bits of words: of two words' and, or and exclusive or, of half a word, and below a word's lowest set bit.
+-- The bits of words: of two words' and, or and exclusive or, of half a word, below a word's lowest set bit, and of a power of two; and when an or and an exclusive or are 0.
 use mathlib.Core.Path.{_≡_, refl, ap, sym, _∙_}
 use mathlib.Core.Bool.{Bool, true, false, _&&_, _||_, xor, true≢false}
 use Prim.Native.Nat.{ℕ, zero, suc, _+_, _*_, _/_, _%_, _^_, _<_, min, max}
 use native.Mathlib.Nat.{mod-lt, pow-suc, pow-zero}
 use native.Mathlib.Numerals.{add-one}
 use native.Mathlib.Omega.{arith}
-use lib.Bits.{bitAnd, bitOr, bitXor, differ, and-step, or-step, xor-step}
+use lib.Bits.{bitAnd, bitOr, bitXor, differ, and-step, or-step, xor-step, or-zero-l, or-add-and, xor-add-and, xor-self, and-le-l, and-le-r}
 use lib.Count.{trailingZeros, under}
 use lib.Dec.{eqb, lit<}
+use borrow.Author.Tests.{eqb-true, eqb-false, ne-eqb}
 use Rattle.laws.specs.Bits.{bit}
-use Rattle.laws.proofs.Tests.{both, neither, alike}
+use Rattle.laws.proofs.Tests.{both, neither, alike, eqb-same}
+use Rattle.laws.proofs.Halves.{bit-of-zero}
 
 low-is : (q d : ℕ) → d < 2 → eqb ((q * 2 + d) % 2) 1 ≡ eqb d 1
 low-is q d h = let m : (q * 2 + d) % 2 ≡ d = omega arith in rw m
@@ -126,3 +128,24 @@ bit-lowest (suc width) n h z =
     go zero e l later = later (λ h. z (omega arith))
     go (suc zero) e l later = ap (λ r. eqb r 1) e
     go (suc (suc r)) e l later = absurd (omega arith)
+
+-- a power of two has one bit
+pub bit-power : (x a : ℕ) → bit (2 ^ x) a ≡ eqb a x
+unfolding bit
+bit-power zero zero = refl
+bit-power (suc x) zero = rw (pow-suc 2 x) (ne-eqb (2 ^ x * 2 % 2) 1 (λ e. omega (arith, e)) ∙ sym (ne-eqb 0 (suc x) (λ e. omega arith)))
+bit-power zero (suc a) = bit-of-zero a ∙ sym (ne-eqb (suc a) 0 (λ e. omega arith))
+bit-power (suc x) (suc a) =
+    let e : 2 ^ suc x / 2 ≡ 2 ^ x = omega (arith, pow-suc 2 x) in
+    rw e (bit-power x a ∙ eqb-same a x (suc a) (suc x) (λ e. omega arith) (λ e. omega arith))
+
+-- an or and an exclusive or that are 0
+pub or-is-zero : (a b : ℕ) → eqb (bitOr a b) 0 ≡ (eqb a 0 && eqb b 0)
+or-is-zero a b = go (eqb a 0) refl
+  where
+    go : (t : Bool) → eqb a 0 ≡ t → eqb (bitOr a b) 0 ≡ (t && eqb b 0)
+    go true e = rw (eqb-true a 0 e, or-zero-l b)
+    go false e = ne-eqb (bitOr a b) 0 (λ h. eqb-false a 0 e (omega (arith, or-add-and a b, and-le-r a b)))
+
+pub xor-is-zero : (a b : ℕ) → eqb (bitXor a b) 0 ≡ eqb a b
+xor-is-zero a b = eqb-same (bitXor a b) 0 a b (λ h. omega (arith, xor-add-and a b, and-le-l a b, and-le-r a b)) (λ h. rw h (xor-self b))

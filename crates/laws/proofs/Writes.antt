@@ -1,12 +1,12 @@
 -- A run of elements written into a room from a place on, and two runs one after the other.
-use mathlib.Core.Path.{_≡_, refl, ap, _∙_}
+use mathlib.Core.Path.{_≡_, refl, ap, sym, _∙_}
 use mathlib.Core.List.{List, [], _∷_, _++_, map, flatMap, map-append}
 use Prim.Native.Nat.{ℕ, zero, suc, _+_, _*_, _<_, _≤_}
 use native.Mathlib.Numerals.{add-one}
 use native.Mathlib.Nat.{add-zero, mul-add}
 use native.Mathlib.Omega.{arith}
 use lib.ListN.{length, getD, take, drop, set, length-set, length-append, length-map}
-use lib.Seq.{sets, sets-eq, set-comm, drop-set-lt, take-suc, length-take-le, getD-set-same, getD-set-other}
+use lib.Seq.{sets, sets-eq, set-comm, drop-set-lt, take-suc, length-take-le, getD-set-same, getD-set-other, getD-drop}
 use Rattle.laws.specs.Room.{laid}
 use Rattle.laws.proofs.Ranges.{flat-append, length-flat}
 
@@ -97,3 +97,11 @@ sets-comm room i j (x ∷ xs) ys h =
 pub drop-behind : {A : Type 0} (room : List A) (i : ℕ) (xs : List A) (j : ℕ) → i + length xs ≤ j → drop j (sets room i xs) ≡ drop j room
 drop-behind room i [] j h = refl
 drop-behind room i (x ∷ xs) j h = drop-behind (set room i x) (suc i) xs j (omega arith) ∙ drop-set-lt j room i x (omega arith)
+
+module _ {A : Type 0} where
+  -- an entry is the first of what is left from it on
+  first-left : (xs : List A) (k : ℕ) (d : A) → getD (drop k xs) 0 d ≡ getD xs k d
+  first-left xs k d = getD-drop k xs 0 d ∙ ap (λ i. getD xs i d) (add-zero k)
+
+  pub sets-behind : (room : List A) (i : ℕ) (xs : List A) (k : ℕ) (d : A) → i + length xs ≤ k → getD (sets room i xs) k d ≡ getD room k d
+  sets-behind room i xs k d l = sym (first-left (sets room i xs) k d) ∙ ap (λ ys. getD ys 0 d) (drop-behind room i xs k l) ∙ first-left room k d

@@ -1,10 +1,10 @@
 -- The bits of found cubes, set one after the other; what is found in a block is what is found in its halves.
 use mathlib.Core.Path.{_≡_, refl, ap, ap₂, sym, subst, _∙_}
-use mathlib.Core.Bool.{Bool, true, false, _&&_, _||_, or-assoc, or-comm, or-false, and-false, and-true, and-or-distrib-right, false≢true}
+use mathlib.Core.Bool.{Bool, true, false, _&&_, _||_, or-assoc, or-comm, or-false, and-false, and-true, false≢true}
 use mathlib.Core.List.{List}
 use Prim.Native.Nat.{ℕ, zero, suc, _+_, _*_, _-_, _/_, _%_, _^_, _<_, _≤_}
 use native.Mathlib.Decide.{ℕ-discrete}
-use native.Mathlib.Nat.{pow-zero, pow-suc, div-one, one-mul, zero-mul, mod-eq-of-lt}
+use native.Mathlib.Nat.{pow-zero, div-one, one-mul, zero-mul, mod-eq-of-lt}
 use native.Mathlib.Numerals.{add-one}
 use native.Mathlib.Omega.{arith}
 use lib.Dec.{eqb}
@@ -16,14 +16,14 @@ use lib.Seq.{getD-set-same, getD-set-other}
 use borrow.Author.Tests.{eq-eqb, ne-eqb, eqb-true}
 use Rattle.laws.specs.Bits.{bit}
 use Rattle.laws.specs.Range.{someTo}
-use Rattle.laws.proofs.Tests.{both, eqb-same}
+use Rattle.laws.proofs.Tests.{both}
+use Rattle.laws.proofs.Some.{some-true, some-false, some-and}
 use Rattle.laws.proofs.Halves.{bit-of-zero}
-use Rattle.laws.proofs.Words.{bit-or}
+use Rattle.laws.proofs.Words.{bit-or, bit-power}
 use Rattle.grid.specs.Limits.{mostSide, mostRows}
 use Rattle.cube.specs.Cube.{cornerX, cornerY, cornerZ}
 use Rattle.summary.specs.Blocks.{half}
 use Rattle.summary.specs.Steps.{found}
-use Rattle.summary.proofs.Some.{some-true, some-false}
 use Rattle.summary.proofs.Halves.{halfOf, half-small, half-at, wider}
 use Rattle.summary.proofs.Numbers.{CubeOf}
 use Rattle.steps.specs.Looks.{isIn, foundFrom, foundIn, Marks}
@@ -65,15 +65,6 @@ mark-one words w x y z row t long lx ly lz e bits a b c lb lc = go (ℕ-discrete
     go (yes p) (no n) = other (λ s. n (omega (arith, s, e))) (rw (ne-eqb c z n, and-false (eqb b y)))
 
 -- the word that a step's answer is shifted to
-bit-power : (x a : ℕ) → bit (2 ^ x) a ≡ eqb a x
-unfolding bit
-bit-power zero zero = refl
-bit-power (suc x) zero = rw (pow-suc 2 x) (ne-eqb (2 ^ x * 2 % 2) 1 (λ e. omega (arith, e)) ∙ sym (ne-eqb 0 (suc x) (λ e. omega arith)))
-bit-power zero (suc a) = bit-of-zero a ∙ sym (ne-eqb (suc a) 0 (λ e. omega arith))
-bit-power (suc x) (suc a) =
-    let e : 2 ^ suc x / 2 ≡ 2 ^ x = omega (arith, pow-suc 2 x) in
-    rw e (bit-power x a ∙ eqb-same a x (suc a) (suc x) (λ e. omega arith) (λ e. omega arith))
-
 pub one-bit : (t : Bool) (x a : ℕ) → x < mostSide → bit (boolByte t * 2 ^ x % 2 ^ 64) a ≡ (eqb a x && t)
 one-bit true x a l =
     let small : 2 ^ x < 2 ^ 64 = pow-lt l in
@@ -116,11 +107,6 @@ mark-cube step words x y z row t long lx ly lz e is =
     (mark-one words (boolByte t * 2 ^ x % 2 ^ 64) x y z row t long lx ly lz e (λ a. one-bit t x a lx))
 
 -- ---- from a block to its halves
-some-and : (n : ℕ) (p : ℕ → Bool) (t : Bool) → someTo n (λ h. p h && t) ≡ (someTo n p && t)
-unfolding someTo
-some-and zero p t = refl
-some-and (suc n) p t = ap (λ u. p n && t || u) (some-and n p t) ∙ sym (and-or-distrib-right (p n) (someTo n p) t)
-
 -- a cube that is in a block
 pub is-in : (j x y z a b c : ℕ) → isIn j x y z a b c ≡ true → CubeOf j x y z a b c
 is-in j x y z a b c e =

@@ -11,12 +11,12 @@ use borrow.Author.Tests.{ltb-true, ltb-false, leb-true, leb-false, lt-ltb, le-le
 use Rattle.laws.specs.Range.{someTo}
 use Rattle.laws.specs.Least.{gathered}
 use Rattle.laws.proofs.Tests.{both}
+use Rattle.laws.proofs.Some.{some-true, some-false}
 use Rattle.grid.specs.Limits.{mostNumber}
 use Rattle.grid.specs.Grid.{Size, isAboveGrey}
 use Rattle.summary.specs.Blocks.{inGrid, eight, cubeNumber, blockNumber, blockLeast, blockGreatest}
 use Rattle.summary.specs.Steps.{finds, found}
 use Rattle.summary.specs.Crossed.{isCrossed}
-use Rattle.summary.proofs.Some.{some-true, some-false}
 use Rattle.summary.proofs.Halves.{wider}
 use Rattle.summary.proofs.Numbers.{OneOf, cornerSample, least-of-eight, greatest-of-eight, some-least, some-greatest, least-narrower, greatest-narrower}
 

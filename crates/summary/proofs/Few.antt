@@ -8,7 +8,7 @@ use native.Mathlib.Nat.{pow-zero, pow-suc, div-one, mul-add, mul-comm, suc-mul}
 use native.Mathlib.Omega.{arith}
 use lib.ListN.{getD}
 use Rattle.laws.specs.Range.{one-if, sumTo, countTo}
-use Rattle.laws.proofs.Ranges.{sum-cong, sum-split, sum-add, sum-quiet, sum-none}
+use Rattle.laws.proofs.Ranges.{term-le, sum-times}
 use Rattle.cube.specs.Cube.{cornerX, cornerY, cornerZ}
 use Rattle.grid.specs.Limits.{mostNumber}
 use Rattle.grid.specs.Grid.{Size, isAboveGrey}
@@ -19,22 +19,6 @@ use Rattle.summary.proofs.Halves.{halfOf, half-small, half-at, wider}
 use Rattle.summary.proofs.Numbers.{CubeOf}
 use Rattle.summary.proofs.Crossed.{gridStep, crossedHere}
 use Rattle.summary.proofs.Alike.{unopened}
-
--- a term is at most the sum
-term-le : (n i : ℕ) (f : ℕ → ℕ) → i < n → f i ≤ sumTo n f
-unfolding sumTo
-term-le zero i f l = absurd (omega arith)
-term-le (suc n) i f l = go (decLt i n) (λ l′. term-le n i f l′)
-  where
-    go : Dec (i < n) → (i < n → f i ≤ sumTo n f) → f i ≤ sumTo n f + f n
-    go (yes l′) below = omega (arith, below l′)
-    go (no ge) below = let e : i ≡ n = omega arith in rw e (omega arith)
-
--- terms that are at most so many times others
-sum-times : (k n : ℕ) (f g : ℕ → ℕ) → ((i : ℕ) → i < n → f i ≤ k * g i) → sumTo n f ≤ k * sumTo n g
-unfolding sumTo
-sum-times k zero f g h = omega arith
-sum-times k (suc n) f g h = omega (arith, sum-times k n f g (λ i l. h i (omega arith)), h n (omega arith), mul-add k (sumTo n g) (g n))
 
 module _ (n : Size) (samples : List ℕ) (grey : ℕ) where
   -- the crossed cubes of a block, half by half

@@ -1,6 +1,5 @@
 -- Laws of the summary and of the steps.
 pub mod Looked
-pub mod Some
 pub mod Halves
 pub mod Numbers
 pub mod Crossed

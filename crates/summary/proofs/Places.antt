@@ -13,7 +13,7 @@ use lib.Pow.{pow-pos}
 use borrow.Author.Tests.{eqb-true, eq-eqb}
 use Rattle.laws.specs.Range.{joinTo, joinBox}
 use Rattle.laws.proofs.Tests.{both}
-use Rattle.laws.proofs.Ranges.{join-split, join-next}
+use Rattle.laws.proofs.Ranges.{join-entry}
 use Rattle.laws.proofs.Rows.{length-rows, entry-at}
 use Rattle.grid.specs.Limits.{halvings}
 use Rattle.grid.specs.Grid.{Size, site, coordinate}
@@ -23,7 +23,7 @@ use Rattle.summary.specs.Blocks.{blockLeast, blockGreatest, levelStart, 
 use Rattle.summary.specs.Levels.{LevelOf}
 
 -- 8^k blocks in level k
-cubed : (k : ℕ) → 2 ^ k * (2 ^ k * 2 ^ k) ≡ 8 ^ k
+pub cubed : (k : ℕ) → 2 ^ k * (2 ^ k * 2 ^ k) ≡ 8 ^ k
 cubed zero = rw (pow-zero 2, pow-zero 8)
 cubed (suc k) =
     let m = 2 ^ k in
@@ -39,14 +39,6 @@ level-start (suc k) = omega (arith, level-start k, pow-suc 8 k)
 pub next-start : (k : ℕ) → levelStart (suc k) ≡ 8 * levelStart k + 2
 unfolding levelStart
 next-start k = omega (arith, level-start k)
-
--- an entry of a part of a join
-join-entry : {A : Type 0} (m i q : ℕ) (f : ℕ → List A) (d : A) → i < m → q < length (f i) → getD (joinTo m f) (length (joinTo i f) + q) d ≡ getD (f i) q d
-join-entry m i q f d l lq =
-    let e : m ≡ i + 1 + (m - (i + 1)) = omega arith in
-    rw (e, join-split (i + 1) (m - (i + 1)) f, join-next i f)
-    (List·getD-append (joinTo i f ++ f i) (joinTo (m - (i + 1)) (λ k. f (i + 1 + k))) d (length (joinTo i f) + q) (rw (length-append (joinTo i f) (f i)) (omega arith))
-    ∙ getD-append-add (joinTo i f) (f i) q d)
 
 -- a box of pairs in a row
 module _ (s : ℕ) (f : ℕ → ℕ → ℕ → List ℕ) (pairs : (x y z : ℕ) → length (f x y z) ≡ 2) where

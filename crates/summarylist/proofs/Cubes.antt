@@ -10,14 +10,13 @@ use Rattle.laws.specs.Room.{laid}
 use Rattle.laws.specs.Values.{listTo}
 use Rattle.laws.specs.Least.{gathered}
 use Rattle.laws.proofs.Digits.{low-lt, block-end}
-use Rattle.laws.proofs.Values.{laid-at}
+use Rattle.laws.proofs.Values.{laid-at, laid-past}
 use Rattle.grid.specs.Limits.{mostSide}
 use Rattle.grid.specs.Grid.{Size, site}
 use Rattle.grid.specs.Mesh.{cornerSite}
 use Rattle.summary.specs.Blocks.{inGrid, eight, cubeNumber, blockNumber}
 use Rattle.summary.proofs.Numbers.{InGrid, in-grid, is-in-grid}
 use Rattle.blockrows.specs.Numbers.{fourOf, cubeOf}
-use Rattle.summarylist.proofs.Rest.{laid-past}
 use Rattle.summarylist.proofs.Eight.{AnyOrder, eight-there}
 
 -- the four rows of samples around a row of cubes are among the samples

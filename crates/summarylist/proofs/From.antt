@@ -18,8 +18,8 @@ use Rattle.summarylist.proofs.Levels.{level-kept}
 abbrev pub LevelsFrom : Size → List ℕ → List ℕ → ℕ → Type 0
 LevelsFrom n samples list k = (i : ℕ) → k ≤ i → i ≤ halvings → LevelOf n samples list i
 
-pub none-yet : (n : Size) (samples list : List ℕ) → LevelsFrom n samples list (halvings + 1)
-none-yet n samples list i from to = absurd (omega arith)
+pub none-yet : (n : Size) (samples list : List ℕ) (k : ℕ) → halvings < k → LevelsFrom n samples list k
+none-yet n samples list k past i from to = absurd (omega arith)
 
 -- the level above those that are there: it can be worked out, and with it there is one more
 module _ (left : ℕ) (some : left ≡ 0 → ⊥) where

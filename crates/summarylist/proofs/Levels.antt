@@ -13,7 +13,7 @@ use lib.Seq.{sets}
 use Rattle.laws.proofs.Tests.{both, all-at, all-holds}
 use Rattle.laws.proofs.Digits.{low-mod, low-div, low-lt}
 use Rattle.laws.proofs.Rows.{length-rows, entry-at}
-use Rattle.laws.proofs.Writes.{sets-before, sets-at}
+use Rattle.laws.proofs.Writes.{sets-before, sets-at, sets-behind}
 use Rattle.grid.specs.Limits.{halvings, mostSide, mostRows}
 use Rattle.grid.specs.Grid.{Size}
 use Rattle.grid.specs.Work.{size}
@@ -21,7 +21,6 @@ use Rattle.summary.specs.Blocks.{blockLeast, blockGreatest, levelStart, placeOf
 use Rattle.summary.specs.Levels.{LevelOf}
 use Rattle.blockrows.specs.Numbers.{sameRow, rowNumbers}
 use Rattle.summarylist.specs.Rows.{RowOf, LevelFits}
-use Rattle.summarylist.proofs.Rest.{sets-behind}
 use Rattle.summarylist.proofs.Starts.{sideOf, is-side, side-most, row-ends, level-ends}
 
 -- both numbers of each block of row (y, z) of level k stand at their places in a list

@@ -1,6 +1,4 @@
--- What the functions' proofs cite: powers of eight and what stays behind what was written, which are general; where levels start; eight numbers by fours; rows of cubes and of other blocks; a level row by row, and all levels.
-pub mod Powers
-pub mod Rest
+-- What the functions' proofs cite: where levels start; eight numbers by fours; rows of cubes and of other blocks; a level row by row, and all levels.
 pub mod Starts
 pub mod Eight
 pub mod Cubes

@@ -1,32 +1,33 @@
 -- Where the levels of a summary start: they rise, and each row of a level ends before the next one starts.
 use mathlib.Core.Path.{_≡_, refl, _∙_}
-use Prim.Native.Nat.{ℕ, _+_, _*_, _%_, _^_, _<_, _≤_}
-use native.Mathlib.Nat.{pow-le-pow-right, mod-eq-of-lt, one-mul}
+use Prim.Native.Nat.{ℕ, zero, suc, _+_, _*_, _%_, _^_, _<_, _≤_}
+use native.Mathlib.Nat.{pow-suc, pow-le-pow-right, mod-eq-of-lt, one-mul}
 use native.Mathlib.Numerals.{add-one}
 use native.Mathlib.Omega.{arith}
 use lib.Pow.{pow-add, pow-mono}
 use Rattle.laws.proofs.Digits.{block-end}
 use Rattle.grid.specs.Limits.{halvings, mostSide}
 use Rattle.summary.specs.Blocks.{levelStart, summaryLength}
-use Rattle.summary.proofs.Places.{level-start}
-use Rattle.summarylist.proofs.Powers.{eight-power}
+use Rattle.summary.proofs.Places.{cubed, level-start}
+
+-- powers of eight, and where levels start
+pub eight-power : (k : ℕ) → 8 ^ k ≡ 2 ^ (3 * k)
+eight-power zero = refl
+eight-power (suc k) =
+    let e : 3 * suc k ≡ 3 * k + 3 = omega arith in
+    rw (pow-suc 8 k, e, pow-add 2 (3 * k) 3, eight-power k)
 
 pub starts-rise : (i k : ℕ) → i ≤ k → levelStart i ≤ levelStart k
 starts-rise i k l = omega (arith, level-start i, level-start k, pow-le-pow-right {n = 8} (omega arith) {i = i} {j = k} l)
 
--- blocks a side, and all of a level's
+-- blocks a side
 pub side-most : (k : ℕ) → k ≤ halvings → 2 ^ k ≤ mostSide
 side-most k l = pow-mono {i = k} {j = halvings} l
-
-all-blocks : (k : ℕ) → 8 ^ k ≡ 2 ^ k * (2 ^ k * 2 ^ k)
-all-blocks k =
-    let thrice : 3 * k ≡ k + (k + k) = omega arith in
-    eight-power k ∙ rw (thrice, pow-add 2 k (k + k), pow-add 2 k k)
 
 -- row r of a level, and the level, in a summary
 pub row-ends : (k r : ℕ) → r < 2 ^ k * 2 ^ k → levelStart k + 2 * 2 ^ k * r + 2 * 2 ^ k ≤ levelStart (k + 1)
 unfolding levelStart
-row-ends k r l = rw (add-one k) (omega (arith, all-blocks k, block-end (2 ^ k) r (2 ^ k * 2 ^ k) l))
+row-ends k r l = rw (add-one k) (omega (arith, cubed k, block-end (2 ^ k) r (2 ^ k * 2 ^ k) l))
 
 pub level-ends : (k : ℕ) → k ≤ halvings → levelStart (k + 1) ≤ summaryLength
 unfolding summaryLength

@@ -195,9 +195,9 @@ pub fn build(nx: usize, ny: usize, nz: usize, samples: &[u16], list: &mut [u16])
     requires { ⌜ length (now list) ≡ summaryLength ⌝ }
     ensures { λ _. ⌜ now (list .exit) ≡ summaryOf (size nx ny nz) (now (samples .entry)) ⌝ }
 {
-    let mut left = HALVINGS + 1;
-    while left != 0 {
-        left -= 1;
-        build_level(nx, ny, nz, left, samples, list);
+    let mut level = HALVINGS + 1;
+    while level != 0 {
+        level -= 1;
+        build_level(nx, ny, nz, level, samples, list);
     }
 }

@@ -9,7 +9,8 @@ use lib.Dec.{eqb}
 use lib.ListN.{getD}
 use Rattle.laws.proofs.Tests.{all-none}
 use Rattle.blockrows.specs.Numbers.{sameRow}
-use Rattle.blockrows.proofs.Apart.{or-is-zero, xor-is-zero, all-next}
+use Rattle.laws.proofs.Tests.{all-next}
+use Rattle.laws.proofs.Words.{or-is-zero, xor-is-zero}
 use Rattle.blockrows.proofs.differs.Statement.{statement}
 use Rattle.blockrows.proofs.differs.Tie as tie
 

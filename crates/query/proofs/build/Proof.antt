@@ -23,37 +23,37 @@ sides-fit-requires : tie.Need-sides-fit-requires
 sides-fit-requires c κs = search needs
 
 returns : tie.Need-returns
-returns c = 
+returns c =
     let f = c .before in
     let a = begun f .args in
     built-sides (a .nx) (a .ny) (a .nz) (a .samples .now) (a .room .now) (sym (f .sides-fit .ensures) ∙ not-true _ (c .if1 .taken))
 
 mul-if2 : tie.Need-mul-if2
-mul-if2 c = 
+mul-if2 c =
     let a = begun (c .before) .args in
     omega (arith, rows-most (a .nx) (a .ny) (a .nz) (sides-within (a .nx) (a .ny) (a .nz) (fit c)))
 
 mul-if2-2 : tie.Need-mul-if2-2
-mul-if2-2 c = 
+mul-if2-2 c =
     let a = begun (c .before) .args in
     omega (arith, samples-most (a .nx) (a .ny) (a .nz) (sides-within (a .nx) (a .ny) (a .nz) (fit c)))
 
 returns-2 : tie.Need-returns-2
-returns-2 c = 
+returns-2 c =
     let e = c .before in
     let a = begun (e .before) .args in
     built-samples (a .nx) (a .ny) (a .nz) (a .samples .now) (a .room .now) (fit e) (c .if2 .taken)
 
 returns-3 : tie.Need-returns-3
 unfolding summaryLength levelStart
-returns-3 c = 
+returns-3 c =
     let e = c .before .before in
     let a = begun (e .before) .args in
     built-room (a .nx) (a .ny) (a .nz) (a .samples .now) (a .room .now) (fit e) (c .before .if2 .left) (c .if3 .taken)
 
 build-requires : tie.Need-build-requires
 unfolding summaryLength levelStart
-build-requires c κs = 
+build-requires c κs =
     let l = c .before in
     let e = l .before .before in
     let a = begun (e .before) .args in
@@ -64,7 +64,7 @@ same-length c = search needs
 
 returns-4 : tie.Need-returns-4
 unfolding summaryLength levelStart
-returns-4 c = 
+returns-4 c =
     let m = c .before .before in
     let l = m .before .before in
     let e = l .before .before in

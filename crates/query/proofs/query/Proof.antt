@@ -33,7 +33,7 @@ refused-requires : tie.Need-refused-requires
 refused-requires c κs = search needs
 
 returns : tie.Need-returns
-returns c = 
+returns c =
     let f = c .before .before in
     let s = begun f in
     let a = s .args in
@@ -41,12 +41,12 @@ returns c =
     ∙ refused-sides (a .nx) (a .ny) (a .nz) (a .grey) (a .samples .now) (a .summary .now) (lent s) (sym (f .sides-fit .ensures) ∙ not-true _ (c .before .if1 .taken))
 
 mul-count : tie.Need-mul-count
-mul-count c = 
+mul-count c =
     let a = begun (c .before) .args in
     omega (arith, rows-most (a .nx) (a .ny) (a .nz) (sides-within (a .nx) (a .ny) (a .nz) (fit c)))
 
 mul-count-2 : tie.Need-mul-count-2
-mul-count-2 c = 
+mul-count-2 c =
     let a = begun (c .before) .args in
     omega (arith, samples-most (a .nx) (a .ny) (a .nz) (sides-within (a .nx) (a .ny) (a .nz) (fit c)))
 
@@ -54,7 +54,7 @@ refused-requires-2 : tie.Need-refused-requires-2
 refused-requires-2 c κs = search needs
 
 returns-2 : tie.Need-returns-2
-returns-2 c = 
+returns-2 c =
     let e = c .before .before in
     let s = begun (e .before) in
     let a = s .args in
@@ -68,7 +68,7 @@ refused-requires-3 : tie.Need-refused-requires-3
 refused-requires-3 c κs = search needs
 
 returns-3 : tie.Need-returns-3
-returns-3 c = 
+returns-3 c =
     let e = c .before .before .before in
     let s = begun (e .before) in
     let a = s .args in
@@ -76,7 +76,7 @@ returns-3 c =
     ∙ refused-work (a .nx) (a .ny) (a .nz) (a .grey) (a .samples .now) (a .summary .now) (lent s) (fit e) (c .before .before .if2 .left) (c .before .if3 .taken)
 
 is-summary-requires : tie.Need-is-summary-requires
-is-summary-requires c κs = 
+is-summary-requires c κs =
     let e = c .before .before in
     let a = begun (e .before) .args in
     (sides-within (a .nx) (a .ny) (a .nz) (fit e), c .before .if2 .left)
@@ -91,7 +91,7 @@ same-length : tie.Need-same-length
 same-length c = search needs
 
 returns-4 : tie.Need-returns-4
-returns-4 c = 
+returns-4 c =
     let cleared = c .before .before .before in
     let t = cleared .before .before in
     let l = t .before .before in
@@ -105,12 +105,11 @@ returns-4 c =
     (sym (t .before .is-summary .ensures) ∙ not-true _ (t .if4 .taken)) (cleared .clear .ensures)
 
 answered-requires : tie.Need-answered-requires
-answered-requires c κs = 
+answered-requires c κs =
     let t = c .before .before .before .before .before in
     let l = t .before .before in
     let e = l .before .before in
-    let a = begun (e .before) .args in
-    (
+    let a = begun (e .before) .args in (
       sides-within (a .nx) (a .ny) (a .nz) (fit e),
       (l .before .if2 .left, (l .if3 .left, sym (t .before .is-summary .ensures) ∙ not-false _ (t .if4 .left))),
     )
@@ -131,7 +130,7 @@ same-length-6 : tie.Need-same-length-6
 same-length-6 c = search needs
 
 returns-5 : tie.Need-returns-5
-returns-5 c = 
+returns-5 c =
     let m = c .before .before .before .before .before .before .before .before .before .before in
     let t = m .before .before .before .before .before .before in
     let l = t .before .before in

@@ -12,26 +12,26 @@ use Rattle.summarylist.proofs.build.Statement.{statement}
 use Rattle.summarylist.proofs.build.Tie as tie
 
 abbrev Inv-loop : tie.InvT-loop
-Inv-loop nx ny nz samples list₀ left₀ list left = (left ≤ halvings + 1) × (length list ≡ length list₀) × LevelsFrom (size nx ny nz) samples list left
+Inv-loop nx ny nz samples list₀ level₀ list level = (level ≤ halvings + 1) × (length list ≡ length list₀) × LevelsFrom (size nx ny nz) samples list level
 
 abbrev μ-loop : tie.MeasureT-loop
-μ-loop nx ny nz samples list₀ left₀ list left = left
+μ-loop nx ny nz samples list₀ level₀ list level = level
 
-add-left : tie.Need-add-left Inv-loop μ-loop
-add-left c = search needs
+add-level : tie.Need-add-level Inv-loop μ-loop
+add-level c = search needs
 
 loop-holds : tie.Need-loop-holds Inv-loop μ-loop
-loop-holds c = (omega arith, refl, none-yet _ _ _)
+loop-holds c = (omega arith, refl, none-yet _ _ _ _ (omega arith))
 
-sub-left : tie.Need-sub-left Inv-loop μ-loop
-sub-left c = omega arith
+sub-level : tie.Need-sub-level Inv-loop μ-loop
+sub-level c = omega arith
 
 build-level-requires : tie.Need-build-level-requires Inv-loop μ-loop
 build-level-requires c κs =
     let l = c .before .before in
     let s = l .before .before .before in
     let a = s .args in
-    fits-above (l .loop .left) (c .before .loop-test .taken) (a .nx) (a .ny) (a .nz) (a .samples .now) (l .loop .list) (s .pre .0) (s .pre .1 .0) (l .loop .inv .1 ∙ s .pre .1 .1) (l .loop .inv .0) (l .loop .inv .2)
+    fits-above (l .loop .level) (c .before .loop-test .taken) (a .nx) (a .ny) (a .nz) (a .samples .now) (l .loop .list) (s .pre .0) (s .pre .1 .0) (l .loop .inv .1 ∙ s .pre .1 .1) (l .loop .inv .0) (l .loop .inv .2)
 
 loop-less : tie.Need-loop-less Inv-loop μ-loop
 loop-less c = omega arith
@@ -44,7 +44,7 @@ loop-again c =
     let a = l .before .before .before .args in (
       omega arith,
       b .build-level .kept .1 .1 .1 .1 .1 .0 ∙ l .loop .inv .1,
-      one-written (l .loop .left) (i .loop-test .taken) (size (a .nx) (a .ny) (a .nz)) (a .samples .now) (l .loop .list) _ (l .loop .inv .2) (b .build-level .ensures),
+      one-written (l .loop .level) (i .loop-test .taken) (size (a .nx) (a .ny) (a .nz)) (a .samples .now) (l .loop .list) _ (l .loop .inv .2) (b .build-level .ensures),
     )
 
 same-length : tie.Need-same-length Inv-loop μ-loop
@@ -63,9 +63,9 @@ build-spec =
     (tie.spec
     Inv-loop
     μ-loop
-    add-left
+    add-level
     loop-holds
-    sub-left
+    sub-level
     build-level-requires
     loop-less
     loop-again

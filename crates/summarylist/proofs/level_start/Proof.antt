@@ -5,7 +5,7 @@ use native.Mathlib.Omega.{arith}
 use borrow.Author.Needs.{needs}
 use Rattle.grid.specs.Limits.{halvings}
 use Rattle.summary.proofs.Places.{level-start}
-use Rattle.summarylist.proofs.Powers.{eight-power}
+use Rattle.summarylist.proofs.Starts.{eight-power}
 use Rattle.summarylist.proofs.level_start.Statement.{statement}
 use Rattle.summarylist.proofs.level_start.Tie as tie
 
