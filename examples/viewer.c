@@ -1,5 +1,6 @@
 /* From a volume to a spoken list: a block of metal with two voids, 12 samples a side, said in plain sentences. Then the mesh is written as a text, as
- * it is sent to somebody, and read back. The mesh is made layer by layer too, as a scanner delivers them. */
+ * it is sent to somebody, and read back. The mesh is made layer by layer too, as a scanner delivers them, and by a summary of the samples, as one tries
+ * many grey values. */
 #include <inttypes.h>
 #include <stdio.h>
 #include <stdlib.h>
@@ -114,6 +115,23 @@ static mesh layered(void) {
   return m;
 }
 
+/* The same mesh by a summary of the samples, and how many blocks were looked at. The summary is kept while other grey values are tried. */
+static mesh queried(uint32_t *blocks) {
+  size_t most_points = tholbrina_grid_points(side, side, side), most_triangles = tholbrina_grid_triangles(side, side, side);
+  size_t work_len = tholbrina_extract_work(side, side, side);
+  uint16_t *volume = room(samples, sizeof *volume), *summary = room(tholbrina_summary_length, sizeof *summary);
+  uint32_t *work = room(work_len, sizeof *work);
+  mesh m = rooms(most_points, most_triangles, 0);
+  cast(volume);
+  granted("The summary", tholbrina_summary(side, side, side, volume, samples, summary, tholbrina_summary_length));
+  for (uint16_t grey = 250; grey <= 550; grey += 100)
+    granted("A query", tholbrina_query(side, side, side, grey, volume, samples, summary, tholbrina_summary_length, m.points, 3 * most_points,
+                                       m.edges, most_points, m.marks, most_points, m.triangles, 3 * most_triangles, work, work_len, &m.v, &m.t,
+                                       blocks));
+  free(work), free(summary), free(volume);
+  return m;
+}
+
 static void smooth(mesh *m) {
   size_t v = m->v, t = m->t, work_len = tholbrina_smooth_work(v, t);
   uint32_t *smoothed = room(3 * v + 1, sizeof *smoothed), *work = room(work_len, sizeof *work);
@@ -167,9 +185,10 @@ static int same(const mesh *a, const mesh *b) {
 }
 
 int main(void) {
-  mesh m = extracted(), by_layers = layered();
-  int is_same_by_layers = same(&m, &by_layers);
-  leave(by_layers);
+  uint32_t blocks = 0;
+  mesh m = extracted(), by_layers = layered(), by_query = queried(&blocks);
+  int is_same_by_layers = same(&m, &by_layers), is_same_by_query = same(&m, &by_query);
+  leave(by_layers), leave(by_query);
   smooth(&m);
   list(&m);
   printf("%" PRIu32 " shells.\n", m.count);
@@ -182,6 +201,7 @@ int main(void) {
   int is_same = same(&m, &again);
   printf("The mesh has %zu bytes as a text, and is %s when it is read back.\n", length, is_same ? "the same" : "another");
   printf("Layer by layer the raw mesh is %s.\n", is_same_by_layers ? "the same" : "another");
+  printf("By a summary it is %s, and %" PRIu32 " blocks are looked at.\n", is_same_by_query ? "the same" : "another", blocks);
   leave(again), free(text), leave(m);
-  return !is_same || !is_same_by_layers;
+  return !is_same || !is_same_by_layers || !is_same_by_query;
 }

@@ -17,7 +17,7 @@
 #define THOLBRINA_H
 
 /* The version of the library, the header and the programs. A change of a call, a record or a text raises the second number. */
-#define THOLBRINA_VERSION "0.5.0"
+#define THOLBRINA_VERSION "0.6.0"
 
 #include <stddef.h>
 #include <stdint.h>
@@ -156,6 +156,58 @@ uint32_t tholbrina_layers_close(uint32_t *state, size_t state_len,
                                 uint32_t *edges, size_t edges_len,
                                 uint8_t *marks, size_t marks_len,
                                 uint32_t *point_count);
+
+/* Many grey values, tried on one volume. A summary of the samples is kept beside them. It tells block by block where the surface can be at a grey
+ * value, so that triangles are looked for only there. The mesh is that of tholbrina_extract.
+ *
+ * Cube (x, y, z) has its corners at samples x to x + 1, y to y + 1 and z to z + 1, and is in the grid if all of these are. The whole block has 64 cubes
+ * a side and begins at cube (0, 0, 0). It is halved along each axis down to single cubes: level k, 0 to 6, has 2^k blocks a side, of 64 / 2^k cubes
+ * each. A block has two numbers, the least and the greatest sample among the corners of those of its cubes that are in the grid, and 65,535 and 0 if
+ * none is.
+ *
+ * What a query cannot save: no call keeps anything, and refusal 19 is exact, so every query reads all samples and the whole summary, and none is done
+ * sooner than that. What it saves is the search for triangles where there are none. */
+
+/* The length of a summary, whatever the sides of the grid are. It has two numbers a block, the least first, from the whole block down, level by level;
+ * in a level x goes fastest, then y, then z. Block (x, y, z) of level k has its least at 2 * ((8^k - 1) / 7 + x + 2^k * (y + 2^k * z)). */
+enum { tholbrina_summary_length = 599186 };
+
+/* Builds the summary of the samples of a grid, which stand as for tholbrina_extract, and writes the whole room. There is no work room.
+ *
+ * Refusals, in this order, which leave the room as it was:
+ *   1  a side is below 2 or above 64
+ *   2  samples_len is not nx * ny * nz
+ *   3  summary_len is not 599,186 */
+uint32_t tholbrina_summary(uint32_t nx, uint32_t ny, uint32_t nz,
+                           const uint16_t *samples, size_t samples_len,
+                           uint16_t *summary, size_t summary_len);
+
+/* The mesh of a grid at one grey value by the summary of its samples, as tholbrina_summary builds it. The summary is only read, so that its length is a
+ * matter of 19 and not of 3. A granted query leaves points, edges, marks, triangles, the work room, *point_count and *triangle_count exactly as
+ * tholbrina_extract does for the same grid, grey value and rooms.
+ *
+ * A query looks at the whole block, and at the eight halves of every block that it opens. A block that it looks at is opened if its least is below the
+ * grey value and its greatest is not, but for a single cube, which is never opened: of it this says that it has a corner above and a corner below, and
+ * triangles are made for such cubes only. *block_count says how many blocks were looked at. They are at most 1 + 48c where c cubes are such. At grey
+ * value 0 it is one block, and the mesh is empty.
+ *
+ * Refusals, in this order:
+ *   1   a side is below 2 or above 64
+ *   2   samples_len is not nx * ny * nz
+ *   3   work_len is not 3 * nx * ny * nz
+ *   19  the summary is not that of the samples: summary_len is not 599,186, or any one number differs
+ *   4   there are more than 250,000 points, or more than the least of the point, edge and mark rooms holds
+ *   5   there are more than 500,000 triangles, or more than their room holds
+ * 1, 2 and 3 leave the work room as it was; 19, 4, 5 and a granted call leave it all zero. */
+uint32_t tholbrina_query(uint32_t nx, uint32_t ny, uint32_t nz, uint16_t grey,
+                         const uint16_t *samples, size_t samples_len,
+                         const uint16_t *summary, size_t summary_len,
+                         uint32_t *points, size_t points_len,
+                         uint32_t *edges, size_t edges_len,
+                         uint8_t *marks, size_t marks_len,
+                         uint32_t *triangles, size_t triangles_len,
+                         uint32_t *work, size_t work_len,
+                         uint32_t *point_count, uint32_t *triangle_count, uint32_t *block_count);
 
 /* The calls on a mesh take what the extractor gives or any other mesh that passes their checks: three coordinates a point, three point numbers a
  * triangle, a mark a point. V is marks_len, and T a third of triangles_len. The mesh is never written. */

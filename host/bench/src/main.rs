@@ -12,18 +12,20 @@ mod memory;
 mod subject;
 mod table;
 mod times;
+mod tries;
 mod vtk;
 
 use calls::{
-    curvature::Curvature, extraction::Extraction, layers::Layers, reading::Reading, shells::Shells,
-    smoothing::Smoothing, writing::Writing, Call,
+    curvature::Curvature, extraction::Extraction, greys::Thirty, layers::Layers, query::Query,
+    reading::Reading, shells::Shells, smoothing::Smoothing, summary::Summary, writing::Writing,
+    Call,
 };
 
 type Failure = Box<dyn std::error::Error>;
 
 /// What the command line asks for.
 struct Asked {
-    /// So many runs of the extractor and of the layers, and a tenth of that, rounded up, of each other call.
+    /// So many runs of the extractor and of the layers, a thirtieth of that, rounded up, of the thirty queries, and a tenth of each other call.
     runs: usize,
     /// The program that times VTK's filters.
     vtk: Option<String>,
@@ -52,6 +54,8 @@ fn peak(call: &str) -> Result<(), Failure> {
     match call {
         Extraction::NAME => memory::said::<Extraction>(),
         Layers::NAME => memory::said::<Layers>(),
+        Summary::NAME => memory::said::<Summary>(),
+        Thirty::<Query>::NAME => memory::said::<Thirty<Query>>(),
         Smoothing::NAME => memory::said::<Smoothing>(),
         Shells::NAME => memory::said::<Shells>(),
         Curvature::NAME => memory::said::<Curvature>(),

@@ -5,15 +5,19 @@ use std::collections::BTreeMap;
 use crate::calls::{
     curvature::Curvature,
     extraction::Extraction,
+    greys::Thirty,
     layers::Layers,
+    query::Query,
     reading::Reading,
     shells::Shells,
     smoothing::{Smoothing, ROUNDS},
+    summary::Summary,
     writing::Writing,
     Call,
 };
 use crate::casting;
 use crate::subject::{Subject, GREY};
+use crate::tries::{self, Tries};
 use crate::{memory, times, vtk, Asked, Failure};
 
 /// A casting, and the same casting cut into blocks of 16 and of 32 samples a side.
@@ -93,21 +97,35 @@ fn row<C: Call>(
     Ok(())
 }
 
-/// The seven rows of a casting; answers the time of its layers as a part of the extraction's, and how many triangles VTK's mesh has, where its program is named.
-fn rows(casting: &Casting, asked: &Asked) -> Result<(f64, Option<f64>), Failure> {
+/// What is told of a casting after the table.
+struct Told {
+    /// The time of its layers as a part of the extraction's.
+    layers: f64,
+    tries: Tries,
+    /// How many triangles VTK's mesh has, where its program is named.
+    triangles: Option<f64>,
+}
+
+/// The nine rows of a casting.
+fn rows(casting: &Casting, asked: &Asked) -> Result<Told, Failure> {
     let beside = match &asked.vtk {
         Some(program) => vtk::said(program, &casting.whole.samples, asked.runs)?,
         None => BTreeMap::new(),
     };
     row::<Extraction>(casting, asked, &beside)?;
     row::<Layers>(casting, asked, &beside)?;
+    row::<Summary>(casting, asked, &beside)?;
+    row::<Thirty<Query>>(casting, asked, &beside)?;
     row::<Smoothing>(casting, asked, &beside)?;
     row::<Shells>(casting, asked, &beside)?;
     row::<Curvature>(casting, asked, &beside)?;
     row::<Writing>(casting, asked, &beside)?;
     row::<Reading>(casting, asked, &beside)?;
-    let part = times::part::<Layers, Extraction>(&casting.whole, asked.runs)?;
-    Ok((part, beside.get("triangles").copied()))
+    Ok(Told {
+        layers: times::part::<Layers, Extraction>(&casting.whole, asked.runs)?,
+        tries: Tries::new(casting.voids, &casting.whole, asked.runs)?,
+        triangles: beside.get("triangles").copied(),
+    })
 }
 
 /// What the columns are, in sentences.
@@ -119,12 +137,20 @@ fn explain(asked: &Asked) {
         );
     }
     println!(
-        "The library on made-up castings of 64 samples a side at grey value {GREY}, on one thread. A time is the median of {} runs of extraction and of layers, {} of each other call.",
+        "The library on made-up castings of 64 samples a side at grey value {GREY}, on one thread. A time is the median of {} runs of extraction and of layers, {} of the thirty queries, {} of each other call.",
         Extraction::runs(asked.runs),
+        Thirty::<Query>::runs(asked.runs),
         Smoothing::runs(asked.runs)
     );
     println!("Before it is timed every result is compared with the reference's, to the last bit. Layers is the casting handed in layer by layer, with rooms for one layer. Smoothing is {ROUNDS} rounds. Writing is the text of the mesh, and its reference a plain loop that only formats the lines.");
     println!("Reading is that text read back, and its reference a plain loop that only splits the lines and parses the numbers.");
+    let greys: Vec<u16> = Thirty::<Query>::greys().collect();
+    println!(
+        "Summary is that of the samples, built, and as long for a block as for the whole casting. Queries are {} by one summary, which is built before, at grey values {} to {}; a sample counts once for each, and VTK's filter makes as many surfaces.",
+        greys.len(),
+        greys[0],
+        greys[greys.len() - 1]
+    );
     println!("At 16, 32, 64: nanoseconds per sample, triangle or byte, with the casting cut into blocks of 16 or 32 samples a side, and whole.");
     println!("Reference, VTK: the time of the whole casting as a part of the plain reference's, and of VTK's filter's on one thread.");
     println!("MB: peak memory of a process that makes the one call on the whole casting, less what it had at its start: the call's input, and its rooms in full. Layers are read one after the other, so that their input is one layer.");
@@ -143,17 +169,19 @@ pub fn print(asked: &Asked) -> Result<(), Failure> {
         ["voids", "call", "per"],
         ["at 16", "at 32", "at 64", "reference", "VTK", "MB"],
     );
-    let (mut parts, mut counts) = (Vec::new(), Vec::new());
+    let (mut parts, mut tries, mut counts) = (Vec::new(), Vec::new(), Vec::new());
     for casting in &castings {
-        let (part, count) = rows(casting, asked)?;
-        parts.push(format!("{part:.3} with {} voids", casting.voids));
-        counts.extend(count);
+        let told = rows(casting, asked)?;
+        parts.push(format!("{:.3} with {} voids", told.layers, casting.voids));
+        tries.push(told.tries);
+        counts.extend(told.triangles);
     }
     println!();
     println!(
         "Layer by layer the whole casting takes as a part of the extraction's time, both timed in turns: {}.",
         parts.join(", ")
     );
+    tries::print(&tries);
     if let [few, more, most] = counts.as_slice() {
         println!(
             "VTK's filters: {}, {}, {}, {}. Those on a mesh take VTK's own, of {few}, {more} and {most} triangles.",

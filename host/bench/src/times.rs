@@ -67,3 +67,15 @@ pub fn part<One: Call, Other: Call>(on: &Subject, runs: usize) -> Result<f64, Fa
     let parts = (0..TURNS).map(|_| library(&mut one, on, each) / library(&mut other, on, each));
     Ok(median(parts.collect()))
 }
+
+/// The nanoseconds of some calls, timed in turns as for a part: of each the median over the turns. Each is handed how many runs to make in a turn.
+pub fn in_turns<const N: usize>(
+    runs: usize,
+    mut calls: [&mut dyn FnMut(usize) -> f64; N],
+) -> [f64; N] {
+    let each = runs.div_ceil(TURNS);
+    let turns: Vec<[f64; N]> = (0..TURNS)
+        .map(|_| std::array::from_fn(|call| calls[call](each)))
+        .collect();
+    std::array::from_fn(|call| median(turns.iter().map(|turn| turn[call]).collect()))
+}

@@ -4,6 +4,7 @@ use std::collections::BTreeMap;
 use std::io::Write;
 use std::process::{Command, Stdio};
 
+use crate::calls::{greys::Thirty, query::Query};
 use crate::subject::GREY;
 use crate::Failure;
 
@@ -11,6 +12,7 @@ use crate::Failure;
 pub fn said(program: &str, samples: &[u16], runs: usize) -> Result<BTreeMap<String, f64>, Failure> {
     let mut child = Command::new(program)
         .args([GREY.to_string(), runs.to_string()])
+        .args(Thirty::<Query>::greys().map(|grey| grey.to_string()))
         .stdin(Stdio::piped())
         .stdout(Stdio::piped())
         .spawn()?;

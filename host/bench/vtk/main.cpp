@@ -1,6 +1,7 @@
-// vtk_bench GREY RUNS: the median nanoseconds of VTK's filters on one thread, a line each with the filter's name, on a volume of 64 samples a
+// vtk_bench GREY RUNS VALUE..: the median nanoseconds of VTK's filters on one thread, a line each with the filter's name, on a volume of 64 samples a
 // side from standard input. Points and triangles only, as the library gives them: no normals, gradients or scalars. The filters on a mesh take
-// vtkFlyingEdges3D's. Two more lines: the triangles of that mesh, and its mean curvature.
+// vtkFlyingEdges3D's at GREY. Three more lines: the triangles of that mesh, its mean curvature, and as tries the nanoseconds of vtkFlyingEdges3D at all
+// the VALUEs, one after the other.
 #include <vtkCurvatures.h>
 #include <vtkDataArray.h>
 #include <vtkFlyingEdges3D.h>
@@ -22,17 +23,25 @@
 
 static const int side = 64;
 
-template <class Filter> static void median(const char *name, Filter *filter, int runs) {
+template <class Job> static void timed(const char *name, Job job, int runs) {
   std::vector<double> times;
   for (int i = 0; i < runs; i++) {
-    filter->Modified();
     auto start = std::chrono::steady_clock::now();
-    filter->Update();
+    job();
     std::chrono::duration<double, std::nano> time = std::chrono::steady_clock::now() - start;
     times.push_back(time.count());
   }
   std::sort(times.begin(), times.end());
   std::printf("%s %f\n", name, times[runs / 2]);
+}
+
+template <class Filter> static void update(Filter *filter) {
+  filter->Modified();
+  filter->Update();
+}
+
+template <class Filter> static void median(const char *name, Filter *filter, int runs) {
+  timed(name, [filter] { update(filter); }, runs);
 }
 
 static void surface(vtkFlyingEdges3D *filter, vtkImageData *volume, double grey, int runs) {
@@ -42,6 +51,18 @@ static void surface(vtkFlyingEdges3D *filter, vtkImageData *volume, double grey,
   filter->ComputeGradientsOff();
   filter->ComputeScalarsOff();
   median("vtkFlyingEdges3D", filter, runs);
+}
+
+// About as many surfaces as there are runs of one.
+static void tries(vtkFlyingEdges3D *filter, const std::vector<double> &values, int runs) {
+  int count = static_cast<int>(values.size());
+  auto all = [filter, &values] {
+    for (double value : values) {
+      filter->SetValue(0, value);
+      update(filter);
+    }
+  };
+  timed("tries", all, (runs + count - 1) / count);
 }
 
 // Ten rounds, half of the way to the neighbours' mean in each, as the library's weight 128; no edge is treated as a feature.
@@ -79,7 +100,7 @@ static void curvatures(vtkPolyData *mesh, int runs) {
 }
 
 int main(int argc, char **argv) {
-  if (argc != 3)
+  if (argc < 4)
     return 2;
   vtkSMPTools::Initialize(1);
   vtkNew<vtkImageData> volume;
@@ -96,5 +117,9 @@ int main(int argc, char **argv) {
   smooth(edges->GetOutput(), fewer);
   connectivity(edges->GetOutput(), fewer);
   curvatures(edges->GetOutput(), fewer);
+  std::vector<double> values;
+  for (int i = 3; i < argc; i++)
+    values.push_back(std::atof(argv[i]));
+  tries(edges.Get(), values, runs);
   return 0;
 }

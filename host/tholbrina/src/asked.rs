@@ -1,5 +1,8 @@
 //! The words of the command line.
 
+use std::iter::Peekable;
+use std::slice::Iter;
+
 use viewer::{LEAST_SIDE, MOST_ROUNDS, MOST_SIDE, MOST_WEIGHT};
 
 /// The end of a sentence about a wrong word.
@@ -22,6 +25,13 @@ A sample has 16 bits, the low byte first, and x goes fastest.
 --weight W says how far a round moves a point, 0 to {MOST_WEIGHT}.
 --curvature adds how sharply each shell bends.
 --mesh writes the mesh as text in place of the list.
+To try many grey values on one casting, write tholbrina try VOLUME.
+It says a sentence a value, and smooths nothing.
+Its VOLUME is plain samples if --size is given, else the text of a grid.
+--greys G1 G2 .. gives the grey values, each 0 to {most_grey}.
+--from A gives the first of evenly spaced grey values instead, 0 to {most_grey}.
+--to B gives the greatest that they may have, 0 to {most_grey}.
+--step S gives how far each is above the one before, at least 1.
 --help says these lines.
 --version says the version.
 ",
@@ -33,6 +43,7 @@ pub enum Asked {
     Help,
     Version,
     List(List),
+    Try(Try),
 }
 
 pub struct List {
@@ -48,7 +59,19 @@ pub struct List {
     pub curvature: bool,
 }
 
-fn number(name: &str, rest: &mut std::slice::Iter<'_, String>) -> Result<u32, String> {
+pub struct Try {
+    /// The file, or - for standard input.
+    pub volume: String,
+    /// The sides of a file of plain samples.
+    pub size: Option<[u32; 3]>,
+    /// The grey values, in the order in which they are tried.
+    pub greys: Vec<u16>,
+}
+
+/// The words after the command.
+type Rest<'a> = Peekable<Iter<'a, String>>;
+
+fn number(name: &str, rest: &mut Rest<'_>) -> Result<u32, String> {
     let word = rest
         .next()
         .ok_or_else(|| format!("A number is missing after {name}; {HELP}."))?;
@@ -56,16 +79,54 @@ fn number(name: &str, rest: &mut std::slice::Iter<'_, String>) -> Result<u32, St
         .map_err(|_| format!("{word} after {name} is not a whole number; {HELP}."))
 }
 
-pub fn asked(words: &[String]) -> Result<Asked, String> {
-    let mut rest = words.iter();
-    match rest.next().map(String::as_str) {
-        Some("list") => {}
-        Some("--help") => return Ok(Asked::Help),
-        Some("--version") => return Ok(Asked::Version),
-        Some(other) => return Err(format!("{other} is not a command; {HELP}.")),
-        None => return Err(format!("A command is missing; {HELP}.")),
+fn size(name: &str, rest: &mut Rest<'_>) -> Result<[u32; 3], String> {
+    Ok([
+        number(name, rest)?,
+        number(name, rest)?,
+        number(name, rest)?,
+    ])
+}
+
+fn grey(name: &str, number: u32) -> Result<u16, String> {
+    u16::try_from(number)
+        .map_err(|_| format!("{number} after {name} is above {}; {HELP}.", u16::MAX))
+}
+
+/// A word that is no option of the command: the volume, or --help or --version, which are asked for then.
+fn other(command: &str, word: &str, volume: &mut Option<String>) -> Result<Option<Asked>, String> {
+    match word {
+        "--help" => return Ok(Some(Asked::Help)),
+        "--version" => return Ok(Some(Asked::Version)),
+        word if word.starts_with('-') && word != "-" => {
+            return Err(format!("{word} is not an option of {command}; {HELP}."));
+        }
+        word if volume.is_some() => {
+            return Err(format!("{word} is one volume too many; {HELP}."));
+        }
+        word => *volume = Some(word.to_string()),
     }
-    let (mut volume, mut size, mut grey) = (None, None, None);
+    Ok(None)
+}
+
+fn given(command: &str, volume: Option<String>) -> Result<String, String> {
+    volume.ok_or_else(|| format!("The volume is missing after {command}; {HELP}."))
+}
+
+pub fn asked(words: &[String]) -> Result<Asked, String> {
+    let mut rest = words.iter().peekable();
+    match rest.next().map(String::as_str) {
+        Some("list") => list(rest),
+        Some("try") => tries(rest),
+        Some("--help") => Ok(Asked::Help),
+        Some("--version") => Ok(Asked::Version),
+        Some(other) => Err(format!("{other} is not a command; {HELP}.")),
+        None => Err(format!("A command is missing; {HELP}.")),
+    }
+}
+
+/// The words after list.
+fn list(mut rest: Rest<'_>) -> Result<Asked, String> {
+    let (mut volume, mut sides, mut level) = (None, None, None);
     let mut list = List {
         volume: String::new(),
         plain: None,
@@ -77,38 +138,24 @@ pub fn asked(words: &[String]) -> Result<Asked, String> {
     };
     while let Some(word) = rest.next() {
         match word.as_str() {
-            "--size" => {
-                size = Some([
-                    number(word, &mut rest)?,
-                    number(word, &mut rest)?,
-                    number(word, &mut rest)?,
-                ])
-            }
-            "--grey" => grey = Some(number(word, &mut rest)?),
+            "--size" => sides = Some(size(word, &mut rest)?),
+            "--grey" => level = Some(number(word, &mut rest)?),
             "--layers" => list.layers = true,
             "--rounds" => list.rounds = Some(number(word, &mut rest)?),
             "--weight" => list.weight = Some(number(word, &mut rest)?),
             "--mesh" => list.mesh = true,
             "--curvature" => list.curvature = true,
-            "--help" => return Ok(Asked::Help),
-            "--version" => return Ok(Asked::Version),
-            other if other.starts_with('-') && other != "-" => {
-                return Err(format!("{other} is not an option; {HELP}."));
+            word => {
+                if let Some(asked) = other("list", word, &mut volume)? {
+                    return Ok(asked);
+                }
             }
-            _ if volume.is_some() => {
-                return Err(format!("{word} is one volume too many; {HELP}."));
-            }
-            _ => volume = Some(word.clone()),
         }
     }
-    list.volume = volume.ok_or_else(|| format!("The volume is missing after list; {HELP}."))?;
-    list.plain = match (size, grey) {
+    list.volume = given("list", volume)?;
+    list.plain = match (sides, level) {
         (None, None) => None,
-        (Some(sides), Some(grey)) => {
-            let grey = u16::try_from(grey)
-                .map_err(|_| format!("{grey} after --grey is above {}; {HELP}.", u16::MAX))?;
-            Some((sides, grey))
-        }
+        (Some(sides), Some(level)) => Some((sides, grey("--grey", level)?)),
         (Some(_), None) => return Err(format!("--size is there without --grey; {HELP}.")),
         (None, Some(_)) => return Err(format!("--grey is there without --size; {HELP}.")),
     };
@@ -118,4 +165,88 @@ pub fn asked(words: &[String]) -> Result<Asked, String> {
         ));
     }
     Ok(Asked::List(list))
+}
+
+/// The numbers of evenly spaced grey values, each with its option.
+#[derive(Default)]
+struct Spaced {
+    from: Option<u32>,
+    to: Option<u32>,
+    step: Option<u32>,
+}
+
+impl Spaced {
+    /// The first of the three options that is there, if one is.
+    fn first(&self) -> Option<&'static str> {
+        let options = [
+            ("--from", self.from),
+            ("--to", self.to),
+            ("--step", self.step),
+        ];
+        let mut there = options.iter().filter(|(_, number)| number.is_some());
+        there.next().map(|&(name, _)| name)
+    }
+
+    /// The grey values. No bound on their count is needed: there are 65,536 at most.
+    fn greys(&self) -> Result<Vec<u16>, String> {
+        let missing = |name: &str| {
+            format!("--from, --to and --step go together, and {name} is missing; {HELP}.")
+        };
+        let from = grey("--from", self.from.ok_or_else(|| missing("--from"))?)?;
+        let to = grey("--to", self.to.ok_or_else(|| missing("--to"))?)?;
+        let step = self.step.ok_or_else(|| missing("--step"))?;
+        if from > to {
+            return Err(format!(
+                "{from} after --from is above {to} after --to; {HELP}."
+            ));
+        }
+        if step == 0 {
+            return Err(format!("0 after --step is below 1; {HELP}."));
+        }
+        Ok((from..=to).step_by(step as usize).collect())
+    }
+}
+
+/// The numbers that follow --greys, up to the next option or the volume -.
+fn greys(name: &str, rest: &mut Rest<'_>) -> Result<Vec<u16>, String> {
+    let mut greys = vec![grey(name, number(name, rest)?)?];
+    while rest
+        .peek()
+        .is_some_and(|word| *word != "-" && !word.starts_with("--"))
+    {
+        greys.push(grey(name, number(name, rest)?)?);
+    }
+    Ok(greys)
+}
+
+/// The words after try.
+fn tries(mut rest: Rest<'_>) -> Result<Asked, String> {
+    let (mut volume, mut sides, mut listed) = (None, None, None);
+    let mut spaced = Spaced::default();
+    while let Some(word) = rest.next() {
+        match word.as_str() {
+            "--size" => sides = Some(size(word, &mut rest)?),
+            "--greys" => listed = Some(greys(word, &mut rest)?),
+            "--from" => spaced.from = Some(number(word, &mut rest)?),
+            "--to" => spaced.to = Some(number(word, &mut rest)?),
+            "--step" => spaced.step = Some(number(word, &mut rest)?),
+            word => {
+                if let Some(asked) = other("try", word, &mut volume)? {
+                    return Ok(asked);
+                }
+            }
+        }
+    }
+    let volume = given("try", volume)?;
+    let greys = match (listed, spaced.first()) {
+        (Some(_), Some(name)) => return Err(format!("--greys is there with {name}; {HELP}.")),
+        (Some(greys), None) => greys,
+        (None, Some(_)) => spaced.greys()?,
+        (None, None) => return Err(format!("The grey values are missing after try; {HELP}.")),
+    };
+    Ok(Asked::Try(Try {
+        volume,
+        size: sides,
+        greys,
+    }))
 }

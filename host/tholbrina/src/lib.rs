@@ -1,29 +1,35 @@
-//! What the command line tool does: open a volume or a mesh, call the proved library, and say the list.
+//! What the command line tool does: open a volume or a mesh, call the proved library, and say the list, or what each of many grey values gives.
 
 mod asked;
 mod layers;
 mod opened;
 mod said;
+mod tries;
 mod volume;
 
 use std::io::Read;
 
-use asked::Asked;
+use asked::{Asked, List};
 use opened::Opened;
 use viewer::Refusal;
 
 /// What to write to standard output, or the one sentence that says what is wrong and what to do.
 pub fn run(words: &[String], standard_input: &mut dyn Read) -> Result<String, String> {
-    let asked = match asked::asked(words)? {
-        Asked::Help => return Ok(asked::help()),
-        Asked::Version => return Ok(format!("tholbrina {}\n", env!("THOLBRINA_VERSION"))),
-        Asked::List(list) => list,
-    };
+    match asked::asked(words)? {
+        Asked::Help => Ok(asked::help()),
+        Asked::Version => Ok(format!("tholbrina {}\n", env!("THOLBRINA_VERSION"))),
+        Asked::List(asked) => list(&asked, standard_input),
+        Asked::Try(asked) => tries::said(&asked, standard_input),
+    }
+}
+
+/// The list, or the mesh as text.
+fn list(asked: &List, standard_input: &mut dyn Read) -> Result<String, String> {
     let Opened {
         raw,
         rounds,
         weight,
-    } = opened::open(&asked, standard_input)?;
+    } = opened::open(asked, standard_input)?;
     let surface = raw.smooth(rounds, weight).map_err(refused)?;
     let shells = surface.shells().map_err(refused)?;
     if asked.mesh {

@@ -1,4 +1,4 @@
-//! tholbrina list VOLUME: the voids of a casting, in sentences.
+//! tholbrina list VOLUME: the voids of a casting, in sentences. tholbrina try VOLUME: many grey values, a sentence each.
 
 use std::io::Write;
 use std::process::ExitCode;

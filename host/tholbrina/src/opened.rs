@@ -4,7 +4,7 @@ use std::fs::File;
 use std::io::Read;
 
 use crate::asked::List;
-use crate::volume::{self, Volume};
+use crate::volume::{self, Settings, Volume};
 use crate::{layers, refused, sentence};
 use viewer::{Refusal, Surface};
 
@@ -20,7 +20,10 @@ pub fn open(asked: &List, standard_input: &mut dyn Read) -> Result<Opened, Strin
     let from = &mut *source(name, standard_input)?;
     let opened = match asked.plain {
         Some((sides, grey)) if asked.layers => as_it_is(layers::extract(name, from, sides, grey)?),
-        Some((sides, grey)) => extracted(volume::plain(sides, grey, &bytes(name, from)?)?)?,
+        Some((sides, grey)) => {
+            let volume = volume::plain(sides, &bytes(name, from)?)?;
+            as_it_is(extracted(&volume, grey)?)
+        }
         None => text(&bytes(name, from)?)?,
     };
     Ok(Opened {
@@ -31,7 +34,10 @@ pub fn open(asked: &List, standard_input: &mut dyn Read) -> Result<Opened, Strin
 }
 
 /// The file of this name, or standard input.
-fn source<'a>(name: &str, standard_input: &'a mut dyn Read) -> Result<Box<dyn Read + 'a>, String> {
+pub fn source<'a>(
+    name: &str,
+    standard_input: &'a mut dyn Read,
+) -> Result<Box<dyn Read + 'a>, String> {
     if name == "-" {
         return Ok(Box::new(standard_input));
     }
@@ -46,7 +52,7 @@ pub fn unread(name: &str, error: std::io::Error) -> String {
 }
 
 /// All that a source holds.
-fn bytes(name: &str, from: &mut dyn Read) -> Result<Vec<u8>, String> {
+pub fn bytes(name: &str, from: &mut dyn Read) -> Result<Vec<u8>, String> {
     let mut bytes = Vec::new();
     from.read_to_end(&mut bytes)
         .map_err(|error| unread(name, error))?;
@@ -54,10 +60,14 @@ fn bytes(name: &str, from: &mut dyn Read) -> Result<Vec<u8>, String> {
 }
 
 /// A text whose first letter is M is that of a mesh.
+pub fn is_mesh(text: &[u8]) -> bool {
+    text.starts_with(b"M")
+}
+
 fn text(bytes: &[u8]) -> Result<Opened, String> {
-    match bytes.starts_with(b"M") {
+    match is_mesh(bytes) {
         true => mesh(bytes),
-        false => extracted(volume::text(bytes)?),
+        false => grid(bytes),
     }
 }
 
@@ -70,11 +80,21 @@ fn as_it_is(raw: Surface) -> Opened {
     }
 }
 
-fn extracted(volume: Volume) -> Result<Opened, String> {
+fn extracted(volume: &Volume, grey: u16) -> Result<Surface, String> {
+    Surface::extract(volume.sides, grey, &volume.samples).map_err(refused)
+}
+
+fn grid(text: &[u8]) -> Result<Opened, String> {
+    let (volume, settings) = volume::text(text)?;
+    let Settings {
+        grey,
+        rounds,
+        weight,
+    } = settings;
     Ok(Opened {
-        raw: Surface::extract(volume.sides, volume.grey, &volume.samples).map_err(refused)?,
-        rounds: volume.rounds,
-        weight: volume.weight,
+        raw: extracted(&volume, grey)?,
+        rounds,
+        weight,
     })
 }
 

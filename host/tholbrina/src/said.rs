@@ -1,8 +1,8 @@
-//! The list as it is heard: the count first, then a line of plain sentences a shell. No table, no colour, every number once.
+//! The list as it is heard: the count first, then a line of plain sentences a shell, or a sentence a grey value. No table, no colour, every number once.
 
 use std::fmt::Write;
 
-use viewer::{Answer, Shell, Shells};
+use viewer::{Answer, Refusal, Shell, Shells};
 
 /// The side of a voxel in units, in which places are told.
 const UNITS: f64 = 256.0;
@@ -26,31 +26,69 @@ fn counted(count: usize, one: &str, many: &str) -> String {
     }
 }
 
+/// How many shells of a kind touch no outer face.
+fn inside(records: &[Shell], name: &str) -> usize {
+    let of_kind = |shell: &&Shell| shell.touches == 0 && kind(shell) == name;
+    records.iter().filter(of_kind).count()
+}
+
+/// How many shells touch the outer face, in words.
+fn outside(records: &[Shell]) -> String {
+    counted(
+        records.iter().filter(|shell| shell.touches == 1).count(),
+        "surface that touches the outer face",
+        "surfaces that touch the outer face",
+    )
+}
+
+/// "9 voids", and the islands and shells of no volume where there are some.
+fn inner(records: &[Shell]) -> Vec<String> {
+    let mut parts = vec![counted(inside(records, "void"), "void", "voids")];
+    for (name, many) in [
+        ("island", "islands"),
+        ("shell of no volume", "shells of no volume"),
+    ] {
+        match inside(records, name) {
+            0 => {}
+            count => parts.push(counted(count, name, many)),
+        }
+    }
+    parts
+}
+
 /// "9 voids, 1 surface that touches the outer face."
 fn count(records: &[Shell]) -> String {
-    let inside = |name: &str| {
-        records
-            .iter()
-            .filter(|shell| shell.touches == 0 && kind(shell) == name)
-            .count()
-    };
-    let outside = records.iter().filter(|shell| shell.touches == 1).count();
-    let mut parts = vec![counted(inside("void"), "void", "voids")];
-    if inside("island") > 0 {
-        parts.push(counted(inside("island"), "island", "islands"));
-    }
-    if inside("shell of no volume") > 0 {
-        let none = inside("shell of no volume");
-        parts.push(counted(none, "shell of no volume", "shells of no volume"));
-    }
-    if outside > 0 {
-        parts.push(counted(
-            outside,
-            "surface that touches the outer face",
-            "surfaces that touch the outer face",
-        ));
+    let mut parts = inner(records);
+    if records.iter().any(|shell| shell.touches == 1) {
+        parts.push(outside(records));
     }
     parts.join(", ")
+}
+
+/// What a grey value gives. The value comes first, then the same counts in the same order for all: "Grey value 550: 9 voids, 0 surfaces that touch the outer face,
+/// 984 triangles, 1537 blocks looked at."
+pub fn tried(grey: u16, records: &[Shell], triangles: usize, blocks: u32) -> String {
+    let mut parts = inner(records);
+    parts.push(outside(records));
+    parts.push(counted(triangles, "triangle", "triangles"));
+    parts.push(counted(blocks as usize, "block", "blocks"));
+    format!("Grey value {grey}: {} looked at.", parts.join(", "))
+}
+
+/// What is said of a grey value whose surface is refused.
+pub fn refused_at(grey: u16, refusal: Refusal) -> String {
+    let (number, words) = (refusal.number(), refusal.words());
+    format!("Grey value {grey} is refused with number {number}: {words}.")
+}
+
+/// How many grey values were tried, and then what is said of each.
+pub fn tries(sentences: &[String]) -> String {
+    let count = counted(sentences.len(), "grey value", "grey values");
+    let mut text = format!("{count} tried.\n");
+    for sentence in sentences {
+        writeln!(text, "{sentence}").expect("a string takes any text");
+    }
+    text
 }
 
 /// A coordinate in voxels, to three decimals. The quotient is exact, since a unit is 1/256 of a voxel; as with every number of the list it is then rounded to the

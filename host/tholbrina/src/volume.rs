@@ -5,10 +5,14 @@ use viewer::{Refusal, LEAST_SIDE, MOST_SIDE};
 
 pub struct Volume {
     pub sides: [u32; 3],
+    pub samples: Vec<u16>,
+}
+
+/// What the text of a grid says beside its samples.
+pub struct Settings {
     pub grey: u16,
     pub rounds: u32,
     pub weight: u32,
-    pub samples: Vec<u16>,
 }
 
 /// Whether a side is one that the library refuses.
@@ -37,16 +41,13 @@ pub fn other_size(has: &str, sides: [u32; 3]) -> String {
     format!("the volume has {has} bytes, and {nx} by {ny} by {nz} samples of two bytes are {size}")
 }
 
-pub fn plain(sides: [u32; 3], grey: u16, bytes: &[u8]) -> Result<Volume, String> {
+pub fn plain(sides: [u32; 3], bytes: &[u8]) -> Result<Volume, String> {
     if !too_far(sides) && bytes.len() != size(sides) {
         let sizes = other_size(&bytes.len().to_string(), sides);
         return Err(sentence(Refusal::Samples, "", &sizes));
     }
     Ok(Volume {
         sides,
-        grey,
-        rounds: 0,
-        weight: 0,
         samples: samples(bytes).collect(),
     })
 }
@@ -66,7 +67,7 @@ fn malformed(line: usize) -> String {
     format!("{} It is line {line}.", refused(Refusal::Line))
 }
 
-pub fn text(bytes: &[u8]) -> Result<Volume, String> {
+pub fn text(bytes: &[u8]) -> Result<(Volume, Settings), String> {
     let text = String::from_utf8_lossy(bytes);
     let mut lines = text
         .split_inclusive('\n')
@@ -93,11 +94,10 @@ pub fn text(bytes: &[u8]) -> Result<Volume, String> {
     if lines.next().is_some() {
         return Err(malformed(ny * nz + 2));
     }
-    Ok(Volume {
-        sides,
+    let settings = Settings {
         grey: fields[3],
         rounds: fields[4].into(),
         weight: fields[5].into(),
-        samples,
-    })
+    };
+    Ok((Volume { sides, samples }, settings))
 }

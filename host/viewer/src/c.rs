@@ -64,6 +64,38 @@ mod declared {
             marks_len: usize,
             point_count: *mut u32,
         ) -> u32;
+        pub fn tholbrina_summary(
+            nx: u32,
+            ny: u32,
+            nz: u32,
+            samples: *const u16,
+            samples_len: usize,
+            summary: *mut u16,
+            summary_len: usize,
+        ) -> u32;
+        pub fn tholbrina_query(
+            nx: u32,
+            ny: u32,
+            nz: u32,
+            grey: u16,
+            samples: *const u16,
+            samples_len: usize,
+            summary: *const u16,
+            summary_len: usize,
+            points: *mut u32,
+            points_len: usize,
+            edges: *mut u32,
+            edges_len: usize,
+            marks: *mut u8,
+            marks_len: usize,
+            triangles: *mut u32,
+            triangles_len: usize,
+            work: *mut u32,
+            work_len: usize,
+            point_count: *mut u32,
+            triangle_count: *mut u32,
+            block_count: *mut u32,
+        ) -> u32;
         pub fn tholbrina_smooth(
             points: *const u32,
             points_len: usize,
@@ -278,6 +310,63 @@ pub fn layers_close(
             marks.as_mut_ptr(),
             marks.len(),
             point_count,
+        )
+    }
+}
+
+pub fn summary([nx, ny, nz]: [u32; 3], samples: &[u16], summary: &mut [u16]) -> u32 {
+    // SAFETY: each slice is lent for the call with its own length, and the function has no requirement.
+    unsafe {
+        declared::tholbrina_summary(
+            nx,
+            ny,
+            nz,
+            samples.as_ptr(),
+            samples.len(),
+            summary.as_mut_ptr(),
+            summary.len(),
+        )
+    }
+}
+
+#[allow(clippy::too_many_arguments)]
+pub fn query(
+    [nx, ny, nz]: [u32; 3],
+    grey: u16,
+    samples: &[u16],
+    summary: &[u16],
+    points: &mut [u32],
+    edges: &mut [u32],
+    marks: &mut [u8],
+    triangles: &mut [u32],
+    work: &mut [u32],
+    [point_count, triangle_count, block_count]: &mut [u32; 3],
+) -> u32 {
+    // SAFETY: each slice is lent for the call with its own length, the mutable ones and the three numbers are all different places, and the function has no
+    // requirement.
+    unsafe {
+        declared::tholbrina_query(
+            nx,
+            ny,
+            nz,
+            grey,
+            samples.as_ptr(),
+            samples.len(),
+            summary.as_ptr(),
+            summary.len(),
+            points.as_mut_ptr(),
+            points.len(),
+            edges.as_mut_ptr(),
+            edges.len(),
+            marks.as_mut_ptr(),
+            marks.len(),
+            triangles.as_mut_ptr(),
+            triangles.len(),
+            work.as_mut_ptr(),
+            work.len(),
+            point_count,
+            triangle_count,
+            block_count,
         )
     }
 }

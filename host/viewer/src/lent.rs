@@ -21,6 +21,9 @@ pub const MOST_WEIGHT: u32 = 256;
 /// The length of the room for the state of a run of layers.
 pub const LAYERS_STATE: usize = 4_104;
 
+/// The length of the summary of a grid's samples, whatever its sides are.
+pub const SUMMARY_LENGTH: usize = 599_186;
+
 /// The length of the extractor's work room for so many samples.
 pub const fn extract_work(samples: usize) -> usize {
     3 * samples
@@ -77,8 +80,8 @@ pub struct Extracted {
     pub triangles: u32,
 }
 
-/// The rooms of the extractor, and of the reader of a mesh's text, which has one more. A granted call fills all but the last from the front, and the
-/// rest of each stays. A room for points or triangles counts its whole threes.
+/// The rooms of the extractor, of a query, and of the reader of a mesh's text, which has one more. A granted call fills all but the last from the front, and
+/// the rest of each stays. A room for points or triangles counts its whole threes.
 pub struct Rooms<'a> {
     /// Three coordinates a point, in 1/256 of a voxel.
     pub points: &'a mut [u32],
@@ -180,6 +183,57 @@ pub fn layers_close(
     Closed {
         number,
         points: count,
+    }
+}
+
+/// Builds the summary of the samples of a grid in a room of exactly [`SUMMARY_LENGTH`] numbers, which is written whole: two numbers a block, the least and the
+/// greatest sample at the corners of its cubes. Answers 0 if granted, else the refusal's number: 1, 2, 3.
+pub fn summary(sides: [u32; 3], samples: &[u16], summary: &mut [u16]) -> u32 {
+    c::summary(sides, samples, summary)
+}
+
+/// What a query answers: number 0 and the three counts if granted, else the refusal's number and zero counts.
+#[derive(Clone, Copy, PartialEq, Eq, Debug)]
+pub struct Queried {
+    /// 0 if granted, else the refusal's number.
+    pub number: u32,
+    /// How many points there are.
+    pub points: u32,
+    /// How many triangles there are.
+    pub triangles: u32,
+    /// How many blocks were looked at.
+    pub blocks: u32,
+}
+
+/// The mesh of a grid at one grey value by the summary of its samples, as [`summary()`] builds it, into lent rooms: all that [`extract`] leaves there. Every
+/// query reads all samples and the whole summary, since it keeps nothing and takes no other summary. Refusals: 1, 2, 3, 19, 4, 5.
+pub fn query(
+    sides: [u32; 3],
+    grey: u16,
+    samples: &[u16],
+    summary: &[u16],
+    rooms: Rooms<'_>,
+) -> Queried {
+    // The call sets all three, whatever it answers.
+    let mut counts = [u32::MAX; 3];
+    let number = c::query(
+        sides,
+        grey,
+        samples,
+        summary,
+        rooms.points,
+        rooms.edges,
+        rooms.marks,
+        rooms.triangles,
+        rooms.work,
+        &mut counts,
+    );
+    let [points, triangles, blocks] = counts;
+    Queried {
+        number,
+        points,
+        triangles,
+        blocks,
     }
 }
 

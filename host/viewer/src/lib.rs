@@ -1,7 +1,7 @@
 //! The proved library as a Rust program meets it.
 //!
-//! [`Surface`], [`Layers`] and [`Mesh`] own the rooms of their calls and answer a [`Refusal`] as an error. The functions beside them are the library's calls on
-//! rooms that the caller lends, with the number as document 01 has it. The library checks everything itself; nothing is checked twice.
+//! [`Surface`], [`Layers`], [`Summary`] and [`Mesh`] own the rooms of their calls and answer a [`Refusal`] as an error. The functions beside them are the
+//! library's calls on rooms that the caller lends, with the number as document 01 has it. The library checks everything itself; nothing is checked twice.
 //!
 //! ```
 //! // Metal of 3 by 3 by 3 samples with a void of one sample in its middle.
@@ -17,6 +17,11 @@
 //! }
 //! parts.add(layers.close()?);
 //! assert_eq!(parts.put_together(), Some(surface.clone()));
+//!
+//! // The same surface by the summary of the samples, and one at another grey value, each with the number of blocks looked at.
+//! let summary = viewer::Summary::of([3, 3, 3], &samples)?;
+//! assert_eq!(summary.surface(500, &samples)?, (surface.clone(), 49));
+//! assert_eq!(summary.surface(0, &samples)?, (viewer::Surface::default(), 1));
 //!
 //! let smoothed = surface.smooth(1, 64)?;
 //! let shells = smoothed.shells()?;
@@ -44,8 +49,10 @@ mod layers;
 mod lent;
 mod owned;
 mod refusal;
+mod summary;
 
 pub use layers::{Layers, Part, Parts};
 pub use lent::*;
 pub use owned::{Answer, Shells, Surface};
 pub use refusal::Refusal;
+pub use summary::Summary;

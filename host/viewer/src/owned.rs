@@ -1,7 +1,7 @@
 //! The calls with their rooms owned: a grid or the text of a mesh goes in, and a surface, its shells, its text and its answers come out. Nothing is checked
 //! here that the library checks itself.
 
-use crate::lent::{self, Mesh, Rooms, Shell, MOST_POINTS, MOST_SIDE, MOST_TRIANGLES};
+use crate::lent::{self, Extracted, Mesh, Rooms, Shell, MOST_POINTS, MOST_SIDE, MOST_TRIANGLES};
 use crate::lent::{extract_work, read_work, shells_work, smooth_work, text_room};
 use crate::Refusal;
 
@@ -42,13 +42,23 @@ pub enum Answer {
 impl Surface {
     /// The surface of a grid at one grey value. Sample (x, y, z) is samples[x + nx (y + ny z)].
     pub fn extract(sides: [u32; 3], grey: u16, samples: &[u16]) -> Result<Surface, Refusal> {
+        Surface::filled(samples.len(), |rooms| {
+            lent::extract(sides, grey, samples, rooms)
+        })
+    }
+
+    /// The surface that a call leaves in rooms for all that a grid of so many samples can give.
+    pub(crate) fn filled(
+        samples: usize,
+        call: impl FnOnce(Rooms<'_>) -> Extracted,
+    ) -> Result<Surface, Refusal> {
         // A grid of more samples is refused whatever its rooms are.
-        let count = samples.len().min(MOST_SIDE.pow(3) as usize);
+        let count = samples.min(MOST_SIDE.pow(3) as usize);
         let most_points = (3 * count).min(MOST_POINTS);
         let most_triangles = (5 * count).min(MOST_TRIANGLES);
         let mut surface = Surface::blank(most_points, most_triangles);
         let mut work = vec![0; extract_work(count)];
-        let found = lent::extract(sides, grey, samples, surface.rooms(&mut work));
+        let found = call(surface.rooms(&mut work));
         Refusal::check(found.number)?;
         surface.points.truncate(3 * found.points as usize);
         surface.edges.truncate(found.points as usize);

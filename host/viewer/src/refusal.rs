@@ -44,6 +44,7 @@ refusals! {
     Shells = 16, "the S lines or the shell count of a mesh's text differ from the mesh's own";
     Layer = 17, "a layer is not nx·ny samples long, or is one too many";
     Closing = 18, "a run of layers is closed early, or a second time";
+    Summary = 19, "a lent summary isn't that of the samples: its length or a number in it differs";
 }
 
 impl Refusal {
@@ -56,7 +57,7 @@ impl Refusal {
     ///
     /// # Panics
     ///
-    /// If the number is over 18, which no call answers.
+    /// If the number is over 19, which no call answers.
     pub fn check(number: u32) -> Result<(), Refusal> {
         match number {
             0 => Ok(()),
@@ -80,10 +81,10 @@ mod tests {
     #[test]
     fn each_number_gives_its_refusal() {
         assert_eq!(Refusal::check(0), Ok(()));
-        for number in 1..=18 {
+        for number in 1..=19 {
             let refusal = Refusal::check(number).unwrap_err();
             assert_eq!(refusal.number(), number);
         }
-        assert_eq!(Refusal::ALL.len(), 18);
+        assert_eq!(Refusal::ALL.len(), 19);
     }
 }

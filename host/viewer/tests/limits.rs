@@ -207,14 +207,20 @@ fn the_same_in_every_place() {
     let header = bounds(&file("include/tholbrina.h"), header);
     assert_eq!(header, calls, "the C header and the definitions");
     let mut wrapper = bounds(&file("host/viewer/src/lent.rs"), constant);
-    // The length of a state of layers is no bound: it is eight numbers and a layer of the largest sides.
-    let state = wrapper.remove("layers_state");
-    assert_eq!(state, Some(8 + calls["most_side"].pow(2)));
-    assert_eq!(state, Some(reference::layers::STATE as u64));
+    // The lengths of two rooms are no bounds. A state of layers has eight numbers and a layer of the largest sides; a summary has two numbers a block, and the
+    // blocks are halved from the largest side down to single cubes.
+    let most_side = calls["most_side"];
+    let blocks: u64 = (0..=most_side.ilog2()).map(|level| 8u64.pow(level)).sum();
+    let (state, summary) = (reference::layers::STATE, reference::summary::SUMMARY);
+    for (name, length, document) in [
+        ("layers_state", 8 + most_side.pow(2), state),
+        ("summary_length", 2 * blocks, summary),
+    ] {
+        assert_eq!(wrapper.remove(name), Some(length), "{name}");
+        assert_eq!(document as u64, length, "{name}");
+        let said = format!("enum {{ tholbrina_{name} = {length} }};");
+        let header = file("include/tholbrina.h");
+        assert!(header.lines().any(|line| line == said), "{name}");
+    }
     assert_eq!(wrapper, calls, "the wrapper and the definitions");
-    let said = format!(
-        "enum {{ tholbrina_layers_state = {} }};",
-        viewer::LAYERS_STATE
-    );
-    assert!(file("include/tholbrina.h").lines().any(|line| line == said));
 }

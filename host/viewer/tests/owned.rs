@@ -1,6 +1,11 @@
 //! The calls with their rooms owned: what they answer of document 01's figures, and each refusal that a caller of theirs can meet, as its enum.
 
-use viewer::{Answer, Layers, Mesh, Parts, Refusal, Shell, Surface};
+#[path = "tools/grids.rs"]
+mod grids;
+mod tools;
+
+use grids::{Grid, Holes};
+use viewer::{Answer, Layers, Mesh, Parts, Refusal, Shell, Summary, Surface};
 
 /// The samples of document 01's figure, 3 by 3 by 3: the centre is 100, all others 0. The grey value is 50.
 fn samples() -> [u16; 27] {
@@ -163,6 +168,61 @@ fn a_run_is_refused_for_its_totals() {
         assert_eq!(layers.next(layer), Err(Refusal::Points));
     }
     assert_eq!(layers.close(), Err(Refusal::Closing));
+}
+
+/// The summary is kept, and other grey values are tried by it.
+#[test]
+fn the_figure_by_its_summary() {
+    let summary = Summary::of([3, 3, 3], &samples()).unwrap();
+    assert_eq!(summary.surface(50, &samples()), Ok((figure(), 49)));
+    for grey in 1..=100 {
+        let surface = Surface::extract([3, 3, 3], grey, &samples()).unwrap();
+        assert_eq!(summary.surface(grey, &samples()), Ok((surface, 49)));
+    }
+    for grey in [0, 101, 65_535] {
+        let nothing = Ok((Surface::default(), 1));
+        assert_eq!(summary.surface(grey, &samples()), nothing);
+    }
+}
+
+#[test]
+fn a_summary_is_refused() {
+    let of = |sides, samples: &[u16]| Summary::of(sides, samples).unwrap_err();
+    assert_eq!(of([1, 2, 2], &[0; 4]), Refusal::Sides);
+    assert_eq!(of([2, 65, 2], &[0; 260]), Refusal::Sides);
+    assert_eq!(of([2, 2, 2], &[0; 7]), Refusal::Samples);
+    assert_eq!(of([64; 3], &vec![0; 300_000]), Refusal::Samples);
+}
+
+/// After each refusal the summary serves its own samples.
+#[test]
+fn a_query_is_refused() {
+    let summary = Summary::of([3, 3, 3], &samples()).unwrap();
+    for (other, refusal) in [
+        (&[0; 26][..], Refusal::Samples),
+        (&vec![0; 300_000], Refusal::Samples),
+        (&[0; 27], Refusal::Summary),
+    ] {
+        for grey in [0, 50] {
+            assert_eq!(summary.surface(grey, other), Err(refusal));
+        }
+        assert_eq!(summary.surface(50, &samples()), Ok((figure(), 49)));
+    }
+    let noisy = Holes::new().below(196_000);
+    for (grid, refusal) in [
+        (grids::checkered([64; 3]), Refusal::Points),
+        (noisy, Refusal::Triangles),
+    ] {
+        let Grid {
+            sides,
+            grey,
+            samples,
+        } = grid;
+        let summary = Summary::of(sides, &samples).unwrap();
+        assert_eq!(summary.surface(grey, &samples), Err(refusal));
+        let nothing = Ok((Surface::default(), 1));
+        assert_eq!(summary.surface(0, &samples), nothing);
+    }
 }
 
 /// What all three calls on a mesh answer.

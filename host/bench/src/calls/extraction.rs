@@ -1,6 +1,6 @@
 //! The extractor, with rooms for the most points and triangles that a grid can give.
 
-use super::Call;
+use super::{greys::AtGrey, Call};
 use crate::subject::{Subject, GREY};
 
 #[derive(PartialEq)]
@@ -12,10 +12,21 @@ pub struct Extraction {
     work: Vec<u32>,
 }
 
-impl Call for Extraction {
-    const NAME: &'static str = "extraction";
-    const UNIT: &'static str = "sample";
-    const FILTER: &'static str = "vtkFlyingEdges3D";
+impl Extraction {
+    pub fn rooms(&mut self) -> viewer::Rooms<'_> {
+        viewer::Rooms {
+            points: &mut self.points,
+            edges: &mut self.edges,
+            marks: &mut self.marks,
+            triangles: &mut self.triangles,
+            work: &mut self.work,
+        }
+    }
+}
+
+impl AtGrey for Extraction {
+    const NAMES: &'static str = "extractions";
+    const FILTER: &'static str = "";
 
     fn lent(on: &Subject) -> Extraction {
         let points = (3 * on.sample_count()).min(viewer::MOST_POINTS);
@@ -29,23 +40,16 @@ impl Call for Extraction {
         }
     }
 
-    fn library(&mut self, on: &Subject) -> u32 {
-        let rooms = viewer::Rooms {
-            points: &mut self.points,
-            edges: &mut self.edges,
-            marks: &mut self.marks,
-            triangles: &mut self.triangles,
-            work: &mut self.work,
-        };
-        viewer::extract([on.side; 3], GREY, &on.samples, rooms).number
+    fn library_at(&mut self, on: &Subject, grey: u16) -> u32 {
+        viewer::extract([on.side; 3], grey, &on.samples, self.rooms()).number
     }
 
-    fn reference(&mut self, on: &Subject) -> u32 {
+    fn reference_at(&mut self, on: &Subject, grey: u16) -> u32 {
         let found = reference::extract::extract(
             on.side,
             on.side,
             on.side,
-            GREY,
+            grey,
             &on.samples,
             &mut self.points,
             &mut self.edges,
@@ -54,6 +58,24 @@ impl Call for Extraction {
             &mut self.work,
         );
         found.number
+    }
+}
+
+impl Call for Extraction {
+    const NAME: &'static str = "extraction";
+    const UNIT: &'static str = "sample";
+    const FILTER: &'static str = "vtkFlyingEdges3D";
+
+    fn lent(on: &Subject) -> Extraction {
+        AtGrey::lent(on)
+    }
+
+    fn library(&mut self, on: &Subject) -> u32 {
+        self.library_at(on, GREY)
+    }
+
+    fn reference(&mut self, on: &Subject) -> u32 {
+        self.reference_at(on, GREY)
     }
 
     fn same(library: &Extraction, reference: &Extraction) -> bool {

@@ -1,11 +1,14 @@
-//! The seven calls that are timed, each with its rooms. A run of layers stands for one.
+//! The nine calls that are timed, each with its rooms. A run of layers stands for one, and so do thirty queries.
 
 pub mod curvature;
 pub mod extraction;
+pub mod greys;
 pub mod layers;
+pub mod query;
 pub mod reading;
 pub mod shells;
 pub mod smoothing;
+pub mod summary;
 pub mod writing;
 
 use std::io::Read;

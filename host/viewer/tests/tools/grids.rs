@@ -24,15 +24,22 @@ impl std::fmt::Debug for Grid {
     }
 }
 
-/// A grid in which one sample is 100 and all others are 0, at grey value 50.
-pub fn one_above(sides: [u32; 3], [x, y, z]: [u32; 3]) -> Grid {
-    let mut samples = vec![0; count(sides)];
-    samples[(x + sides[0] * (y + sides[1] * z)) as usize] = 100;
+/// A grid in which some samples are 100 and all others are 0, at grey value 50.
+pub fn above_where(sides: [u32; 3], is_above: impl Fn([u32; 3]) -> bool) -> Grid {
+    let [nx, ny, _] = sides;
+    let place = |s: u32| [s % nx, s / nx % ny, s / (nx * ny)];
     Grid {
         sides,
         grey: 50,
-        samples,
+        samples: (0..count(sides) as u32)
+            .map(|s| if is_above(place(s)) { 100 } else { 0 })
+            .collect(),
     }
+}
+
+/// A grid in which one sample is 100 and all others are 0, at grey value 50.
+pub fn one_above(sides: [u32; 3], above: [u32; 3]) -> Grid {
+    above_where(sides, |at| at == above)
 }
 
 /// Document 01's figure of 3 by 3 by 3 samples.
