@@ -6,11 +6,11 @@ use Prim.Native.Nat.{ℕ, _+_, _*_, _-_, _/_, _%_, _^_, _<_, _≤_}
 use lib.Dec.{eqb}
 use lib.ListN.{getD}
 use Rattle.laws.specs.Bits.{bit}
-use Rattle.laws.specs.Range.{someTo}
+use Rattle.laws.specs.Range.{sumTo, someTo}
 use Rattle.cube.specs.Cube.{cornerX, cornerY, cornerZ}
 use Rattle.grid.specs.Limits.{halvings, mostSide, mostRows}
 use Rattle.summary.specs.Blocks.{half, levelStart}
-use Rattle.summary.specs.Steps.{found}
+use Rattle.summary.specs.Steps.{looked, found}
 use Rattle.steps.specs.declared.Block.{Block}
 
 -- a word for each row of cubes
@@ -48,6 +48,10 @@ foundFrom step j x y z a b c = isIn j x y z a b c && found step j a b c
 -- the same from one of the first so many halves of block (x, y, z) on, each of which can be halved j times
 unfoldable pub foundIn : (ℕ → ℕ → ℕ → ℕ → Bool) → ℕ → ℕ → ℕ → ℕ → ℕ → ℕ → ℕ → ℕ → Bool
 foundIn step j x y z many a b c = someTo many (λ h. half (λ p q r. foundFrom step j p q r a b c) x y z h)
+
+-- the blocks that are looked at from the halves of a block on
+abbrev pub lookedIn : (ℕ → ℕ → ℕ → ℕ → Bool) → Block → ℕ
+lookedIn step b = sumTo 8 (half (looked step (b .halvings - 1)) (b .x) (b .y) (b .z))
 
 -- the bits of some cubes are set besides those that were
 abbrev pub Marks : List ℕ → List ℕ → (ℕ → ℕ → ℕ → Bool) → Type 0

@@ -1,11 +1,11 @@
 // The steps of a query: the blocks that are looked at, from the summary and the grey value alone. No function here is given samples.
 ghost use mathlib.Core.Path.{_≡_};
-ghost use Prim.Native.Nat.{_+_, _^_, _<_};
+ghost use Prim.Native.Nat.{_+_, _-_, _^_, _<_};
 ghost use lib.ListN.{length};
 ghost use Rattle.grid.specs.Limits.{halvings};
 ghost use Rattle.summary.specs.Blocks.{summaryLength};
 ghost use Rattle.summary.specs.Steps.{finds, stepAt, looked};
-ghost use Rattle.steps.specs.Looks.{BlockFits, halfBlock, foundWords, Marks, foundFrom, foundIn};
+ghost use Rattle.steps.specs.Looks.{BlockFits, halfBlock, foundWords, Marks, foundFrom, foundIn, lookedIn};
 use grid::limits::HALVINGS;
 use grid::limits::MOST_ROWS;
 use grid::limits::MOST_SIDE;
@@ -88,25 +88,27 @@ fn look_at_cubes(summary: &[u16], grey: u16, block: Block, count: u32, found: &m
     run
 }
 
-// A block that can be halved is looked at, and if the step finds it the blocks in it; the halvings left fall at each call.
-pub fn look(summary: &[u16], grey: u16, block: Block, count: u32, found: &mut [u64]) -> u32
-    requires { ⌜ BlockFits block × (0 < block .halvings) ⌝ }
+// The eight halves of a block that was opened, which are no cubes, are looked at, and the blocks in those that are opened; the halvings left fall at each call.
+fn look_at_halves(summary: &[u16], grey: u16, block: Block, count: u32, found: &mut [u64]) -> u32
+    requires { ⌜ BlockFits block × (1 < block .halvings) ⌝ }
     requires { ⌜ length (now summary) ≡ summaryLength ⌝ }
     requires { ⌜ length (now found) ≡ foundWords ⌝ }
-    requires { ⌜ count + looked (stepAt (now summary) grey) (block .halvings) (block .x) (block .y) (block .z) < 2 ^ 32 ⌝ }
-    ensures count { λ r. ⌜ r ≡ count + looked (stepAt (now (summary .entry)) grey) (block .halvings) (block .x) (block .y) (block .z) ⌝ }
-    ensures words { λ _. ⌜ Marks (now (found .entry)) (now (found .exit)) (foundFrom (stepAt (now (summary .entry)) grey) (block .halvings) (block .x) (block .y) (block .z)) ⌝ }
+    requires { ⌜ count + lookedIn (stepAt (now summary) grey) block < 2 ^ 32 ⌝ }
+    ensures count { λ r. ⌜ r ≡ count + lookedIn (stepAt (now (summary .entry)) grey) block ⌝ }
+    ensures words { λ _. ⌜ Marks (now (found .entry)) (now (found .exit)) (foundIn (stepAt (now (summary .entry)) grey) (block .halvings - 1) (block .x) (block .y) (block .z) 8) ⌝ }
 {
-    let step = step_at(summary, grey, block, count);
-    if !step.found {
-        return step.count;
-    }
-    if block.halvings == 1 {
-        return look_at_cubes(summary, grey, block, step.count, found);
-    }
-    let mut run = step.count;
+    let mut run = count;
     for h in 0..8 {
-        run = look(summary, grey, half(block, h), run, found);
+        let part = half(block, h);
+        let step = step_at(summary, grey, part, run);
+        run = step.count;
+        if step.found {
+            if part.halvings == 1 {
+                run = look_at_cubes(summary, grey, part, run, found);
+            } else {
+                run = look_at_halves(summary, grey, part, run, found);
+            }
+        }
     }
     run
 }
@@ -126,5 +128,9 @@ pub fn look_at_all(summary: &[u16], grey: u16, found: &mut [u64]) -> u32
         y: 0,
         z: 0,
     };
-    look(summary, grey, whole, 0, found)
+    let step = step_at(summary, grey, whole, 0);
+    if !step.found {
+        return step.count;
+    }
+    look_at_halves(summary, grey, whole, step.count, found)
 }
