@@ -1,10 +1,9 @@
 -- The figures of document 02 (vi), of the definitions: blocks looked at, opened, and crossed cubes.
-use mathlib.Core.Path.{_≡_, refl, _∙_}
-use mathlib.Core.Bool.{Bool, true, false}
+use mathlib.Core.Path.{_≡_, refl}
 use mathlib.Core.List.{List, [], _∷_, map}
 use Prim.Native.Nat.{ℕ, _+_, _*_, _%_}
 use lib.Dec.{leb}
-use lib.ListN.{getD, replicate, set}
+use lib.ListN.{replicate, set}
 use Rattle.laws.specs.Range.{one-if, sumTo, countTo, someTo, joinTo}
 use Rattle.laws.specs.Least.{gathered}
 use Rattle.laws.specs.Values.{listTo}

@@ -1,8 +1,8 @@
 -- The cubes that the steps found are those that may have a triangle: what the walk along the cubes asks of lent words.
-use mathlib.Core.Path.{_≡_, refl, ap, sym, subst, _∙_}
-use mathlib.Core.Bool.{Bool, true, false, _&&_, _||_, false≢true}
+use mathlib.Core.Path.{_≡_, ap, sym, subst, _∙_}
+use mathlib.Core.Bool.{Bool, true, false, _&&_, _||_}
 use mathlib.Core.List.{List}
-use Prim.Native.Nat.{ℕ, _+_, _*_, _-_, _/_, _^_, _<_, _≤_}
+use Prim.Native.Nat.{ℕ, _+_, _*_, _-_, _<_}
 use native.Mathlib.Omega.{arith}
 use lib.ListN.{length, getD}
 use Rattle.laws.specs.Range.{one-if}
@@ -17,10 +17,10 @@ use Rattle.grid.specs.Mesh.{cornerSite, caseAt}
 use Rattle.grid.specs.Work.{size, SidesFit}
 use Rattle.cuberows.specs.Cubes.{isFound, FoundCubes}
 use Rattle.cuberows.proofs.Cases.{whole-cube}
-use Rattle.summary.specs.Blocks.{inGrid, summaryOf, isSummary}
+use Rattle.summary.specs.Blocks.{inGrid, isSummary}
 use Rattle.summary.specs.Steps.{stepAt, found}
 use Rattle.summary.specs.Crossed.{isCrossed}
-use Rattle.summary.proofs.Numbers.{CubeOf, InGrid, in-grid, is-in-grid}
+use Rattle.summary.proofs.Numbers.{in-grid, is-in-grid}
 use Rattle.summary.proofs.Alike.{corners-alike}
 use Rattle.summary.proofs.Found.{found-is-crossed}
 use Rattle.summary.proofs.Places.{the-summary}

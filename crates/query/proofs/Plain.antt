@@ -1,8 +1,8 @@
 -- A query by the summary of the samples leaves what the extractor leaves, and the blocks that it looks at are few.
-use mathlib.Core.Path.{_≡_, refl, ap, sym, _∙_}
+use mathlib.Core.Path.{_≡_, refl}
 use mathlib.Core.List.{List}
 use mathlib.Core.Bool.{Bool, true, false, cond, not}
-use mathlib.Core.Logic.{_⊎_, inl, inr}
+use mathlib.Core.Logic.{_⊎_, inl, inr, ⊎-elim}
 use Prim.Native.Nat.{ℕ, _+_, _*_, _≤_}
 use native.Mathlib.Omega.{arith}
 use lib.Dec.{eqb}
@@ -12,10 +12,10 @@ use Rattle.grid.specs.Limits.{halvings, mostNumber}
 use Rattle.grid.specs.Sides.{sidesFit}
 use Rattle.grid.specs.Grid.{axes, sampleCount, edgeCount, isAboveGrey}
 use Rattle.grid.specs.Mode.{cubes}
-use Rattle.grid.specs.Work.{size, SidesFit}
+use Rattle.grid.specs.Work.{size}
 use Rattle.grid.proofs.Sides.{sides-within}
 use Rattle.extract.specs.Extraction.{Rooms, refused, cleared, measured, extracted}
-use Rattle.summary.specs.Blocks.{isSummary, summaryOf}
+use Rattle.summary.specs.Blocks.{isSummary}
 use Rattle.summary.specs.Steps.{stepAt, looked, opened}
 use Rattle.summary.specs.Crossed.{crossedCubes}
 use Rattle.summary.proofs.Looked.{looked-is}
@@ -57,6 +57,17 @@ module _ (nx ny nz grey : ℕ) (samples summary : List ℕ) (r : Rooms) where
       go true true false = inr (inr (inl refl))
       go true false c = inr (inl refl)
       go false b c = inl refl
+
+  -- so a granted query was lent the summary, and leaves what a granted extraction leaves
+  pub granted-is-extract : outcome .mesh .number ≡ 0 → outcome .mesh ≡ extracted cubes nx ny nz grey samples r
+  granted-is-extract granted = go (isSummary (size nx ny nz) samples summary) refl
+    where
+      go : (t : Bool) → isSummary (size nx ny nz) samples summary ≡ t → outcome .mesh ≡ extracted cubes nx ny nz grey samples r
+      go true right = query-is-extract right
+      go false wrong =
+          ⊎-elim (λ e. absurd (omega (arith, e, granted)))
+          (⊎-elim (λ e. absurd (omega (arith, e, granted))) (⊎-elim (λ e. absurd (omega (arith, e, granted))) (λ e. absurd (omega (arith, e, granted)))))
+          (query-is-refused wrong)
 
   -- a granted query looks at one block and eight for each that is opened
   pub blocks-opened : outcome .mesh .number ≡ 0 → outcome .blockCount ≡ 1 + 8 * opened (stepAt summary grey) halvings 0 0 0

@@ -1,9 +1,8 @@
 -- The ways out of the two calls, each leaving the outcome that is defined.
 use mathlib.Core.Path.{_≡_, refl, ap, sym, _∙_}
 use mathlib.Core.List.{List}
-use mathlib.Core.Bool.{Bool, true, false, cond, not}
+use mathlib.Core.Bool.{Bool, true, false, cond}
 use Prim.Native.Nat.{ℕ, min}
-use native.Mathlib.Omega.{arith}
 use lib.Dec.{eqb, ltb}
 use lib.ListN.{length, replicate}
 use borrow.Author.Tests.{eq-eqb, ne-eqb}
@@ -16,7 +15,7 @@ use Rattle.extract.specs.Extraction.{Rooms, Outcome, refused, cleared, pointRoo
 use Rattle.extract.specs.Promise.{rooms, left}
 use Rattle.summary.specs.Blocks.{summaryOf, summaryLength, isSummary}
 use Rattle.summary.specs.Steps.{stepAt, looked}
-use Rattle.query.specs.Query.{Queried, built, noSummary, queryRefused, answered, queried}
+use Rattle.query.specs.Query.{built, noSummary, queryRefused, answered, queried}
 use Rattle.query.specs.Promise.{builtLeft, queryLeft}
 
 -- ---- past 19: what the extractor leaves

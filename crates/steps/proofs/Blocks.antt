@@ -1,11 +1,10 @@
 -- A block's numbers are small, its place in the summary is there, and its halves are blocks.
-use mathlib.Core.Path.{_≡_, refl, ap, sym, _∙_}
+use mathlib.Core.Path.{_≡_}
 use Prim.Native.Nat.{ℕ, suc, _+_, _*_, _-_, _^_, _<_, _≤_}
-use native.Mathlib.Nat.{pow-le-pow-right, pow-suc, mul-le-mul-right, one-mul}
+use native.Mathlib.Nat.{pow-le-pow-right, pow-suc, mul-le-mul-right}
 use native.Mathlib.Omega.{arith}
-use lib.Pow.{pow-pos}
 use Rattle.grid.specs.Limits.{halvings, mostSide}
-use Rattle.summary.specs.Blocks.{levelStart, placeOf, summaryLength}
+use Rattle.summary.specs.Blocks.{placeOf, summaryLength}
 use Rattle.summary.proofs.Places.{level-start, next-start, place-small}
 use Rattle.steps.specs.declared.Block.{Block}
 use Rattle.steps.specs.Looks.{BlockFits, halfBlock}

@@ -15,9 +15,9 @@ use Rattle.laws.proofs.Some.{some-true}
 use Rattle.grid.specs.Limits.{mostNumber}
 use Rattle.grid.specs.Grid.{Size, site, isAboveGrey}
 use Rattle.grid.specs.Mesh.{cornerSite}
-use Rattle.summary.specs.Blocks.{inGrid, blockLeast, blockGreatest}
+use Rattle.summary.specs.Blocks.{blockLeast, blockGreatest}
 use Rattle.summary.specs.Crossed.{isCrossed}
-use Rattle.summary.proofs.Numbers.{CubeOf, CornerOf, InGrid, in-grid, is-in-grid, cornerSample, least-met-or-outside, greatest-met-or-outside}
+use Rattle.summary.proofs.Numbers.{CubeOf, CornerOf, InGrid, in-grid, is-in-grid, least-met-or-outside, greatest-met-or-outside}
 use Rattle.summary.proofs.Crossed.{finds-both, gridStep, crossedHere}
 
 -- nothing changes along a walk on which no step changes anything

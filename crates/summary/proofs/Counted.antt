@@ -1,6 +1,6 @@
 -- The crossed cubes of a block, counted half by half, are those of its box of cubes; those of the whole block are those of the grid.
-use mathlib.Core.Path.{_≡_, refl, ap, ap₂, sym, _∙_}
-use mathlib.Core.Bool.{Bool, true, false, _&&_, and-false}
+use mathlib.Core.Path.{_≡_, ap₂, sym, _∙_}
+use mathlib.Core.Bool.{and-false}
 use mathlib.Core.List.{List}
 use Prim.Native.Nat.{ℕ, zero, suc, _+_, _*_, _-_, _^_, _<_, _≤_}
 use native.Mathlib.Nat.{pow-zero, pow-suc, add-zero, one-mul, mul-add, mul-assoc, mul-one}
@@ -12,10 +12,9 @@ use Rattle.laws.proofs.Ranges.{sum-cong, sum-quiet, sum-none}
 use Rattle.laws.proofs.Boxes.{box, box-halves, from-origin}
 use Rattle.grid.specs.Limits.{halvings}
 use Rattle.grid.specs.Grid.{Size, isAboveGrey}
-use Rattle.grid.specs.Work.{size, SidesFit}
-use Rattle.summary.specs.Blocks.{inGrid, half}
+use Rattle.summary.specs.Blocks.{inGrid}
 use Rattle.summary.specs.Crossed.{isCrossed, crossedCubes}
-use Rattle.summary.proofs.Numbers.{InGrid, is-in-grid}
+use Rattle.summary.proofs.Numbers.{is-in-grid}
 use Rattle.summary.proofs.Crossed.{crossedHere}
 use Rattle.summary.proofs.Few.{crossedIn}
 

@@ -1,12 +1,11 @@
 -- A single cube is found exactly when it is crossed.
-use mathlib.Core.Path.{_≡_, refl, ap, ap₂, sym, _∙_}
+use mathlib.Core.Path.{_≡_, refl, ap₂, sym, _∙_}
 use mathlib.Core.Bool.{Bool, true, false, not, cond, _&&_, and-comm, and-false}
 use mathlib.Core.List.{List}
-use Prim.Native.Nat.{ℕ, zero, suc, _+_, _*_, _/_, _^_, _<_, _≤_, min, max}
+use Prim.Native.Nat.{ℕ, zero, suc, _/_, _^_, _<_, _≤_, min, max}
 use native.Mathlib.Nat.{pow-zero, div-one}
 use native.Mathlib.Omega.{arith}
 use lib.Dec.{leb, ltb}
-use lib.ListN.{getD}
 use borrow.Author.Tests.{ltb-true, ltb-false, leb-true, leb-false, lt-ltb, le-leb, lt-leb}
 use Rattle.laws.specs.Range.{someTo}
 use Rattle.laws.specs.Least.{gathered}
@@ -18,7 +17,7 @@ use Rattle.summary.specs.Blocks.{inGrid, eight, cubeNumber, blockNumber,
 use Rattle.summary.specs.Steps.{finds, found}
 use Rattle.summary.specs.Crossed.{isCrossed}
 use Rattle.summary.proofs.Halves.{wider}
-use Rattle.summary.proofs.Numbers.{OneOf, cornerSample, least-of-eight, greatest-of-eight, some-least, some-greatest, least-narrower, greatest-narrower}
+use Rattle.summary.proofs.Numbers.{cornerSample, least-of-eight, greatest-of-eight, some-least, some-greatest, least-narrower, greatest-narrower}
 
 -- what a step finds, and when it does
 pub finds-both : (grey least greatest : ℕ) → finds grey least greatest ≡ true → (least < grey) × (grey ≤ greatest)

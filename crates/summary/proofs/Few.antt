@@ -1,20 +1,19 @@
 -- The blocks that are opened are few: each holds a crossed cube, and a cube is in one block of each size.
-use mathlib.Core.Path.{_≡_, refl, ap, ap₂, sym, subst, _∙_}
-use mathlib.Core.Bool.{Bool, true, false, cond, _&&_, false≢true}
+use mathlib.Core.Path.{_≡_, refl, sym, _∙_}
+use mathlib.Core.Bool.{Bool, true, false, cond, false≢true}
 use mathlib.Core.List.{List}
 use Prim.Native.Nat.{ℕ, zero, suc, _+_, _*_, _-_, _/_, _^_, _<_, _≤_}
 use native.Mathlib.Decide.{decLt}
-use native.Mathlib.Nat.{pow-zero, pow-suc, div-one, mul-add, mul-comm, suc-mul}
+use native.Mathlib.Nat.{pow-zero, div-one, suc-mul}
 use native.Mathlib.Omega.{arith}
 use lib.ListN.{getD}
-use Rattle.laws.specs.Range.{one-if, sumTo, countTo}
+use Rattle.laws.specs.Range.{one-if, sumTo}
 use Rattle.laws.proofs.Ranges.{term-le, sum-times}
 use Rattle.cube.specs.Cube.{cornerX, cornerY, cornerZ}
 use Rattle.grid.specs.Limits.{mostNumber}
-use Rattle.grid.specs.Grid.{Size, isAboveGrey}
-use Rattle.summary.specs.Blocks.{inGrid, half}
+use Rattle.grid.specs.Grid.{Size}
+use Rattle.summary.specs.Blocks.{half}
 use Rattle.summary.specs.Steps.{opened}
-use Rattle.summary.specs.Crossed.{isCrossed, crossedCubes}
 use Rattle.summary.proofs.Halves.{halfOf, half-small, half-at, wider}
 use Rattle.summary.proofs.Numbers.{CubeOf}
 use Rattle.summary.proofs.Crossed.{gridStep, crossedHere}

@@ -1,13 +1,12 @@
 -- The steps over the summary of a grid, which are given no samples, are those over the numbers of its blocks: what they find, how many they are, and that they are few.
 use mathlib.Core.Path.{_≡_, refl, ap, ap₂, sym, subst, _∙_}
-use mathlib.Core.Bool.{Bool, true, false, cond, _&&_}
+use mathlib.Core.Bool.{Bool, cond, _&&_}
 use mathlib.Core.List.{List}
 use Prim.Native.Nat.{ℕ, zero, suc, _+_, _*_, _-_, _/_, _^_, _<_, _≤_}
-use native.Mathlib.Nat.{pow-suc, mul-assoc, add-zero, div-lt-iff-lt-mul, mul-comm}
+use native.Mathlib.Nat.{pow-suc, add-zero, div-lt-iff-lt-mul}
 use native.Mathlib.Omega.{arith}
 use lib.ListN.{getD}
 use lib.Pow.{pow-pos, pow-add}
-use Rattle.laws.specs.Range.{sumTo}
 use Rattle.laws.proofs.Ranges.{sum-cong}
 use Rattle.cube.specs.Cube.{cornerX, cornerY, cornerZ}
 use Rattle.grid.specs.Limits.{halvings, mostNumber}

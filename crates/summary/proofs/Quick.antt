@@ -1,5 +1,5 @@
 -- The numbers of a block worked out without looking into blocks wholly outside the grid: so that figures can be computed.
-use mathlib.Core.Path.{_≡_, refl, ap, sym, _∙_}
+use mathlib.Core.Path.{_≡_, refl, sym, _∙_}
 use mathlib.Core.Bool.{Bool, true, false, cond}
 use mathlib.Core.List.{List}
 use Prim.Native.Nat.{ℕ, zero, suc, _+_, _*_, _^_, min, max}
@@ -8,10 +8,9 @@ use Rattle.laws.specs.Least.{gathered}
 use Rattle.cube.specs.Cube.{cornerX, cornerY, cornerZ}
 use Rattle.grid.specs.Limits.{mostNumber, halvings}
 use Rattle.grid.specs.Grid.{Size}
-use Rattle.summary.specs.Blocks.{inGrid, eight, half, cubeNumber, blockNumber, blockLeast, blockGreatest, summaryOf}
+use Rattle.summary.specs.Blocks.{inGrid, eight, half, cubeNumber, blockNumber, summaryOf}
 use Rattle.summary.specs.Steps.{finds, stepAt, looked, opened}
 use Rattle.summary.proofs.Numbers.{least-outside, greatest-outside, begins-outside}
-use Rattle.summary.proofs.Crossed.{gridStep}
 use Rattle.summary.proofs.Found.{Within, step-is, looked-same, opened-same}
 
 module _ (op : ℕ → ℕ → ℕ) (outside : ℕ) (n : Size) (samples : List ℕ) where

@@ -11,8 +11,8 @@ use blockrows::COLUMNS;
 use blockrows::ROW;
 use grid::limits::HALVINGS;
 
-// Numbers in a summary: two for each block of each level.
-pub const SUMMARY: usize = 599_186;
+// Numbers in a summary, 599,186: two for each block of each level. A level after the last would begin here.
+pub const SUMMARY: usize = (2 << (3 * (HALVINGS + 1))) / 7;
 
 // Where a level begins.
 pub fn level_start(level: u32) -> usize

@@ -118,6 +118,7 @@ fn the_text_of_a_grid() {
         text,
         format!("2 grey values tried.\n{sentence}\nGrey value 1: 0 voids, 0 surfaces that touch the outer face, 0 triangles, 1 block looked at.\n")
     );
+    assert!(include_str!("../../../README.md").contains(sentence));
     assert!(include_str!("../../../install/tholbrina.1.in").contains(sentence));
 }
 
