@@ -45,10 +45,11 @@ impl Tries {
     /// Where a query's time goes, in milliseconds.
     fn parts(&self) -> String {
         let check = self.empty - self.plain;
-        let [query, check, plain, rest] =
-            [self.query, check, self.plain, self.query - self.empty].map(|time| time / 1e6);
+        let mesh = self.query / self.part;
+        let steps = self.query - check - mesh;
+        let [query, check, steps, mesh] = [self.query, check, steps, mesh].map(|time| time / 1e6);
         format!(
-            "A query with {} voids takes {query:.3} milliseconds: the check {check:.3}, an empty mesh {plain:.3}, steps and mesh {rest:.3}.",
+            "A query with {} voids takes {query:.3} milliseconds: the check {check:.3}, the steps {steps:.3}, the mesh {mesh:.3}.",
             self.voids
         )
     }
@@ -67,5 +68,5 @@ pub fn print(all: &[Tries]) {
     for tries in all {
         println!("{}", tries.parts());
     }
-    println!("This is told from outside: a query at grey value 0 is the check, one step and an empty mesh, and an extraction at grey value 0 the empty mesh alone. The check is their difference, and what a query takes beyond the one at grey value 0 is steps and mesh.");
+    println!("This is told from outside. The check is what a query at grey value 0, which is the check, one step and an empty mesh, takes beyond an extraction there. The mesh is taken as an extraction at the same grey values, and the steps are what is left.");
 }
