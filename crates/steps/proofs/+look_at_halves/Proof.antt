@@ -66,7 +66,7 @@ loop-holds t c =
     (omega arith, omega arith, s .pre .1 .1 .1 .0, in-none (stepIn t s) (k .halvings - 1) (k .x) (k .y) (k .z) (s .args .found .now))
 
 half-requires : (t : ℕ) → lts.Need-half-requires (calls t) (at t) looks.Post Inv-loop μ-loop
-half-requires t c κs = let s = c .before .before .before .before in (s .pre .1 .0 .0, (omega (arith, s .pre .1 .0 .1), c .loop-test .taken))
+half-requires t c κs = let s = c .before .before .before .before in (s .pre .1 .0 .0, (omega (arith, s .pre .1 .0 .1), omega (arith, c .loop-test .taken)))
 
 -- in a turn: what is looked at from the half on, and that the count has room for it
 same : (t : ℕ) (c : lts.After-half (calls t) (at t) looks.Post Inv-loop μ-loop)
