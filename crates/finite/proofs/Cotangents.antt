@@ -9,11 +9,12 @@ use lib.Pow.{pow-add, pow-mono, pow-pos}
 use lib.Ieee.{Float, binary64, ofInt, div}
 use lib.Ieee.Exact.{HasValue}
 use lib.Ieee.Back.{round-whole}
+use Rattle.laws.proofs.Digits.{pow-pow}
 use Rattle.laws.specs.Signed.{negative}
 use Rattle.grid.specs.Limits.{windowTo, rootDigits}
 use Rattle.root.specs.Root.{scaleOf, rootOf}
 use Rattle.root.specs.Promise.{Rooted}
-use Rattle.root.proofs.Window.{four-power, scale-most}
+use Rattle.root.proofs.Window.{scale-most}
 use Rattle.root.proofs.OneRoot.{root-of, root-most}
 use Rattle.mesh.specs.declared.Place.{Place}
 use Rattle.mesh.specs.Place.{Near}
@@ -63,7 +64,7 @@ module _ (n : ℕ) (positive : 0 < n) (small : n < 2 ^ windowTo) where
       let r = rootOf n in
       let squares : (r + 1) * (r + 1) ≤ 2 ^ s * 2 ^ s = mul-le-mul {n₁ = r + 1} {m₁ = r + 1} {n₂ = 2 ^ s} {m₂ = 2 ^ s} (omega arith) (omega arith) in
       let twice : 2 * s ≡ s + s = omega arith in
-      let power : 4 ^ s ≡ 2 ^ s * 2 ^ s = four-power s ∙ rw (twice, pow-add 2 s s) in
+      let power : 4 ^ s ≡ 2 ^ s * 2 ^ s = pow-pow 2 2 s ∙ rw (twice, pow-add 2 s s) in
       let least : 1 * 4 ^ s ≤ n * 4 ^ s = mul-le-mul-right {m = 1} {n = n} (4 ^ s) positive in
       omega (arith, squares, power, least, one-mul (4 ^ s), rooted .root .next-above)
 

@@ -212,13 +212,7 @@ join-empty n f e = join-quiet 0 n f (omega arith) (λ i a b. e i) ∙ join-zero 
 
 -- a term is at most the sum
 pub term-le : (n i : ℕ) (f : ℕ → ℕ) → i < n → f i ≤ sumTo n f
-unfolding sumTo
-term-le zero i f l = absurd (omega arith)
-term-le (suc n) i f l = go (decLt i n) (λ l′. term-le n i f l′)
-  where
-    go : Dec (i < n) → (i < n → f i ≤ sumTo n f) → f i ≤ sumTo n f + f n
-    go (yes l′) below = omega (arith, below l′)
-    go (no ge) below = let e : i ≡ n = omega arith in rw e (omega arith)
+term-le n i f l = omega (arith, sum-next i f, sum-rises (i + 1) n f (omega arith))
 
 -- terms that are at most so many times others
 pub sum-times : (k n : ℕ) (f g : ℕ → ℕ) → ((i : ℕ) → i < n → f i ≤ k * g i) → sumTo n f ≤ k * sumTo n g

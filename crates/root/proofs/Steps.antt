@@ -4,15 +4,16 @@ use Prim.Native.Nat.{ℕ, _+_, _*_, _-_, _/_, _%_, _^_, _≤_, _<_}
 use native.Mathlib.Nat.{mul-assoc, mul-right-comm, mul-one, mul-le-mul-left, mul-le-mul-right, mul-lt-mul-of-pos-right, mod-eq-of-lt, one-le-pow}
 use native.Mathlib.Omega.{arith}
 use lib.Pow.{pow-add, pow-pos, shr-shr, shl-shr, shr-le}
+use Rattle.laws.proofs.Digits.{pow-pow}
 use Rattle.grid.specs.Limits.{windowTo, windowFrom, rootDigits}
 use Rattle.root.specs.Root.{scaled}
 use Rattle.root.specs.Promise.{InWindow}
-use Rattle.root.proofs.Window.{four-power, half-power, scaled-add, scaled-next}
+use Rattle.root.proofs.Window.{half-power, scaled-add, scaled-next}
 
 four-twice : (w : ℕ) → 4 ^ w ≡ 2 ^ (w + w)
 four-twice w =
     let e : 2 * w ≡ w + w = omega arith in
-    rw (four-power w, e)
+    rw (pow-pow 2 2 w, e)
 
 -- a number moved up by w binary digits twice is scaled by w, where that is below the window's end
 pub moved-up : (n w : ℕ) → scaled n w < 2 ^ windowTo → (n * 2 ^ w % 2 ^ 64 * 2 ^ w) % 2 ^ 64 ≡ scaled n w

@@ -1,5 +1,5 @@
 -- Scaling: how far a number is scaled to be brought into the window.
-use mathlib.Core.Path.{_≡_, refl, sym, _∙_}
+use mathlib.Core.Path.{_≡_, sym, _∙_}
 use Prim.Native.Nat.{ℕ, zero, suc, _+_, _*_, _-_, _^_, _<_}
 use native.Mathlib.Nat.{pow-suc, mul-assoc, mul-comm, mul-left-comm, mul-le-mul-right, lt-of-not-le, pow-le-pow-right}
 use native.Mathlib.Omega.{arith}
@@ -7,12 +7,6 @@ use lib.Pow.{pow-add}
 use Rattle.grid.specs.Limits.{windowTo, rootDigits}
 use Rattle.root.specs.Root.{scaled}
 use Rattle.root.specs.Promise.{InWindow}
-
-pub four-power : (s : ℕ) → 4 ^ s ≡ 2 ^ (2 * s)
-four-power zero = refl
-four-power (suc s) =
-    let e : 2 * suc s ≡ 2 * s + 2 = omega arith in
-    rw (pow-suc 4 s, e, pow-add 2 (2 * s) 2, four-power s)
 
 pub four-squares : (r : ℕ) → (2 * r) * (2 * r) ≡ 4 * (r * r)
 four-squares r = omega (arith, mul-assoc 2 r (2 * r), mul-left-comm r 2 r)

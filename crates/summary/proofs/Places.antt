@@ -4,14 +4,15 @@ use mathlib.Core.Bool.{Bool, true, false, false≢true}
 use mathlib.Core.List.{List, [], _∷_}
 use Prim.Native.Nat.{ℕ, zero, suc, _+_, _*_, _-_, _/_, _%_, _^_, _<_, _≤_}
 use native.Mathlib.Decide.{decLt}
-use native.Mathlib.Nat.{pow-zero, pow-suc, mul-add, mul-assoc, mul-comm, add-zero, mul-mul-mul-comm, mul-left-comm, pow-le-pow-right}
+use native.Mathlib.Nat.{pow-suc, mul-add, mul-assoc, mul-comm, add-zero, mul-left-comm, pow-le-pow-right}
 use native.Mathlib.Omega.{arith}
 use lib.ListN.{length, getD, length-append}
 use lib.Seq.{ext-getD}
 use lib.Arith.{digits-lt}
-use lib.Pow.{pow-pos}
+use lib.Pow.{pow-pos, pow-add}
 use borrow.Author.Tests.{eqb-true, eq-eqb}
 use Rattle.laws.specs.Range.{joinTo, joinBox}
+use Rattle.laws.proofs.Digits.{pow-pow}
 use Rattle.laws.proofs.Tests.{both}
 use Rattle.laws.proofs.Ranges.{join-entry}
 use Rattle.laws.proofs.Rows.{length-rows, entry-at}
@@ -24,11 +25,9 @@ use Rattle.summary.specs.Levels.{LevelOf}
 
 -- 8^k blocks in level k
 pub cubed : (k : ℕ) → 2 ^ k * (2 ^ k * 2 ^ k) ≡ 8 ^ k
-cubed zero = rw (pow-zero 2, pow-zero 8)
-cubed (suc k) =
-    let m = 2 ^ k in
-    let e : m * 2 * (m * 2 * (m * 2)) ≡ m * (m * m) * 8 = ap (λ t. m * 2 * t) (mul-mul-mul-comm m 2 m 2) ∙ mul-mul-mul-comm m 2 (m * m) 4 in
-    rw (pow-suc 2 k, pow-suc 8 k, ← (cubed k)) e
+cubed k =
+    let thrice : 3 * k ≡ k + (k + k) = omega arith in
+    sym (pow-pow 2 3 k ∙ rw (thrice, pow-add 2 k (k + k), pow-add 2 k k))
 
 -- where the levels start
 pub level-start : (k : ℕ) → 7 * levelStart k + 2 ≡ 2 * 8 ^ k

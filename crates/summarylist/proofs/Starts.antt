@@ -1,21 +1,14 @@
 -- Where the levels of a summary start: they rise, and each row of a level ends before the next one starts.
 use mathlib.Core.Path.{_≡_, refl, _∙_}
-use Prim.Native.Nat.{ℕ, zero, suc, _+_, _*_, _%_, _^_, _<_, _≤_}
-use native.Mathlib.Nat.{pow-suc, pow-le-pow-right, mod-eq-of-lt, one-mul}
+use Prim.Native.Nat.{ℕ, _+_, _*_, _%_, _^_, _<_, _≤_}
+use native.Mathlib.Nat.{pow-le-pow-right, mod-eq-of-lt, one-mul}
 use native.Mathlib.Numerals.{add-one}
 use native.Mathlib.Omega.{arith}
-use lib.Pow.{pow-add, pow-mono}
+use lib.Pow.{pow-mono}
 use Rattle.laws.proofs.Digits.{block-end}
 use Rattle.grid.specs.Limits.{halvings, mostSide}
 use Rattle.summary.specs.Blocks.{levelStart, summaryLength}
 use Rattle.summary.proofs.Places.{cubed, level-start}
-
--- powers of eight, and where levels start
-pub eight-power : (k : ℕ) → 8 ^ k ≡ 2 ^ (3 * k)
-eight-power zero = refl
-eight-power (suc k) =
-    let e : 3 * suc k ≡ 3 * k + 3 = omega arith in
-    rw (pow-suc 8 k, e, pow-add 2 (3 * k) 3, eight-power k)
 
 pub starts-rise : (i k : ℕ) → i ≤ k → levelStart i ≤ levelStart k
 starts-rise i k l = omega (arith, level-start i, level-start k, pow-le-pow-right {n = 8} (omega arith) {i = i} {j = k} l)

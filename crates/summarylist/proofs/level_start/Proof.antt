@@ -3,9 +3,9 @@ use Prim.Native.Nat.{_*_, _^_, _<_}
 use native.Mathlib.Nat.{mod-eq-of-lt, pow-le-pow-right}
 use native.Mathlib.Omega.{arith}
 use borrow.Author.Needs.{needs}
+use Rattle.laws.proofs.Digits.{pow-pow}
 use Rattle.grid.specs.Limits.{halvings}
 use Rattle.summary.proofs.Places.{level-start}
-use Rattle.summarylist.proofs.Starts.{eight-power}
 use Rattle.summarylist.proofs.level_start.Statement.{statement}
 use Rattle.summarylist.proofs.level_start.Tie as tie
 
@@ -21,8 +21,8 @@ shl-result c = search needs
 returns : tie.Need-returns
 returns c =
     let k = c .args .level in
-    let small : 2 * 2 ^ (3 * k) < 2 ^ 64 = omega (arith, eight-power k, pow-le-pow-right {n = 8} (omega arith) {i = k} {j = halvings} (omega arith)) in
-    rw (mod-eq-of-lt small) (omega (arith, eight-power k, level-start k))
+    let small : 2 * 2 ^ (3 * k) < 2 ^ 64 = omega (arith, pow-pow 2 3 k, pow-le-pow-right {n = 8} (omega arith) {i = k} {j = halvings} (omega arith)) in
+    rw (mod-eq-of-lt small) (omega (arith, pow-pow 2 3 k, level-start k))
 
 pub level-start-spec : {M : Type 1} → statement M
 level-start-spec = tie.close (tie.spec mul-result cast-result shl-result returns)
