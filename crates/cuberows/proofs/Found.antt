@@ -10,12 +10,13 @@ use Rattle.laws.specs.Bits.{wordBits}
 use Rattle.cube.specs.Answer.{count}
 use Rattle.grid.specs.Grid.{Size, sampleCount}
 use Rattle.grid.proofs.Same.{case-same}
+use Rattle.grid.specs.Work.{foundRow}
 use Rattle.masks.specs.Masks.{wordCubes}
 use Rattle.rows.specs.declared.Sides.{Sides}
 use Rattle.rows.specs.declared.Stretch.{Stretch}
 use Rattle.rows.specs.Rows.{sizeOf, wordsAbove, Ready, Stands, firstX, ownCubes, cubesMask}
 use Rattle.rows.proofs.Stretches.{cubes-set}
-use Rattle.cuberows.specs.Cubes.{foundRow, FoundIn, FoundCubes, RowFound}
+use Rattle.cuberows.specs.Cubes.{FoundIn, FoundCubes, RowFound}
 use Rattle.cuberows.proofs.Layers.{corners, cube-is}
 
 -- where none are lent, nothing is owed

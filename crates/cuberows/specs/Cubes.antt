@@ -7,9 +7,9 @@ use lib.ListN.{length, getD}
 use Rattle.laws.specs.Bits.{wordBits, bit}
 use Rattle.laws.specs.Range.{sumTo}
 use Rattle.cube.specs.Answer.{count}
-use Rattle.grid.specs.Limits.{mostSide}
 use Rattle.grid.specs.Grid.{Size}
 use Rattle.grid.specs.Mesh.{caseAt}
+use Rattle.grid.specs.Work.{foundRow, isFound}
 use Rattle.rows.specs.declared.Sides.{Sides}
 use Rattle.rows.specs.Rows.{sizeOf, wordsAbove}
 use Rattle.cuberows.specs.declared.Corners.{Corners}
@@ -36,14 +36,7 @@ pub record BusyCubes (m : Corners) (cubes busy : ℕ) : Type 0 where
   pub inside : (i : ℕ) → bit busy i ≡ true → bit cubes i ≡ true
   pub quiet : (i : ℕ) → bit cubes i ≡ true → bit busy i ≡ false → count (wordCase m i) ≡ 0
 
--- Words of found cubes, which a query hands in (document 02, (vi)): that of row (y, z) of cubes stands at y + mostSide z, and its bit x says whether cube (x, y, z) was found.
-abbrev pub foundRow : ℕ → ℕ → ℕ
-foundRow y z = y + mostSide * z
-
-abbrev pub isFound : List ℕ → ℕ → ℕ → ℕ → Bool
-isFound found x y z = bit (getD found (foundRow y z) 0) x
-
--- what they owe of layer z of cubes: each row of the grid has its word, in which only cubes of the row are found, and a cube that is not found has no triangle
+-- what words of found cubes, which a query hands in, owe of layer z of cubes: each row of the grid has its word, in which only cubes of the row are found, and a cube that is not found has no triangle
 pub record LayerFound (n : Size) (above : ℕ → Bool) (found : List ℕ) (z : ℕ) : Type 0 where
   pub listed : (y : ℕ) → y + 1 < n .ny → foundRow y z < length found
   pub inside : (x y : ℕ) → y + 1 < n .ny → isFound found x y z ≡ true → x + 1 < n .nx

@@ -2,8 +2,9 @@
 use mathlib.Core.Path.{_≡_}
 use mathlib.Core.List.{List, [], _∷_, _++_, map}
 use mathlib.Core.Bool.{Bool, true}
-use Prim.Native.Nat.{ℕ, _%_, _^_, _≤_, _<_}
+use Prim.Native.Nat.{ℕ, _*_, _+_, _%_, _^_, _≤_, _<_}
 use lib.ListN.{length, getD}
+use Rattle.laws.specs.Bits.{bit}
 use Rattle.grid.specs.Limits.{leastSide, mostSide}
 use Rattle.grid.specs.Grid.{Size, Kind, edgeCount, crossed}
 use Rattle.grid.specs.Point.{number}
@@ -46,3 +47,10 @@ pub record Nameable (names : List ℕ) (e : ℕ) : Type 0 where
 -- names for so many edges, or none at all
 abbrev pub NamesFit : ℕ → List ℕ → Type 0
 NamesFit many names = (length names ≡ 0 → ⊥) → many ≤ length names
+
+-- Words of found cubes, from the steps of a query to the walk along the cubes (document 02, (vi)): that of row (y, z) of cubes stands at y + mostSide z, and its bit x says whether cube (x, y, z) was found.
+abbrev pub foundRow : ℕ → ℕ → ℕ
+foundRow y z = y + mostSide * z
+
+abbrev pub isFound : List ℕ → ℕ → ℕ → ℕ → Bool
+isFound found x y z = bit (getD found (foundRow y z) 0) x

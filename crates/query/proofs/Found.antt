@@ -14,8 +14,8 @@ use Rattle.cube.specs.Answer.{count}
 use Rattle.grid.specs.Limits.{halvings, mostSide}
 use Rattle.grid.specs.Grid.{Size, isAboveGrey}
 use Rattle.grid.specs.Mesh.{cornerSite, caseAt}
-use Rattle.grid.specs.Work.{size, SidesFit}
-use Rattle.cuberows.specs.Cubes.{isFound, FoundCubes}
+use Rattle.grid.specs.Work.{size, SidesFit, isFound}
+use Rattle.cuberows.specs.Cubes.{FoundCubes}
 use Rattle.cuberows.proofs.Cases.{whole-cube}
 use Rattle.summary.specs.Blocks.{inGrid, isSummary}
 use Rattle.summary.specs.Steps.{stepAt, found}

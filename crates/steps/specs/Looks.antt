@@ -4,11 +4,10 @@ use mathlib.Core.Bool.{Bool, _&&_, _||_}
 use mathlib.Core.List.{List}
 use Prim.Native.Nat.{ℕ, _+_, _*_, _-_, _/_, _^_, _<_, _≤_}
 use lib.Dec.{eqb}
-use lib.ListN.{getD}
-use Rattle.laws.specs.Bits.{bit}
 use Rattle.laws.specs.Range.{sumTo, someTo}
 use Rattle.cube.specs.Cube.{cornerX, cornerY, cornerZ}
 use Rattle.grid.specs.Limits.{halvings, mostSide, mostRows}
+use Rattle.grid.specs.Work.{isFound}
 use Rattle.summary.specs.Blocks.{half, levelStart}
 use Rattle.summary.specs.Steps.{looked, found}
 use Rattle.steps.specs.declared.Block.{Block}
@@ -38,10 +37,11 @@ halfBlock b h =
       z = 2 * b .z + cornerZ h;
     }
 
--- cube (a, b, c) is one of block (x, y, z), which can be halved j times, and is found from there on
+-- cube (a, b, c) is one of block (x, y, z), which can be halved j times
 abbrev pub isIn : ℕ → ℕ → ℕ → ℕ → ℕ → ℕ → ℕ → Bool
 isIn j x y z a b c = eqb (a / 2 ^ j) x && (eqb (b / 2 ^ j) y && eqb (c / 2 ^ j) z)
 
+-- and is found from that block on
 unfoldable pub foundFrom : (ℕ → ℕ → ℕ → ℕ → Bool) → ℕ → ℕ → ℕ → ℕ → ℕ → ℕ → ℕ → Bool
 foundFrom step j x y z a b c = isIn j x y z a b c && found step j a b c
 
@@ -55,5 +55,4 @@ lookedIn step b = sumTo 8 (half (looked step (b .halvings - 1)) (b .x) (b .y) (b
 
 -- the bits of some cubes are set besides those that were
 abbrev pub Marks : List ℕ → List ℕ → (ℕ → ℕ → ℕ → Bool) → Type 0
-Marks entry exit test = (a b c : ℕ) → b < mostSide → c < mostSide
-    → bit (getD exit (b + mostSide * c) 0) a ≡ (bit (getD entry (b + mostSide * c) 0) a || test a b c)
+Marks entry exit test = (a b c : ℕ) → b < mostSide → c < mostSide → isFound exit a b c ≡ (isFound entry a b c || test a b c)

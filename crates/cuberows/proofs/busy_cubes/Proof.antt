@@ -1,7 +1,8 @@
 -- `cuberows::busy_cubes` meets its contract: no words, or the row's own. Assumes nothing.
 use native.Mathlib.Omega.{arith}
 use borrow.Author.Needs.{needs}
-use Rattle.cuberows.specs.Cubes.{foundRow, RowFound}
+use Rattle.grid.specs.Work.{foundRow}
+use Rattle.cuberows.specs.Cubes.{RowFound}
 use Rattle.cuberows.proofs.busy_cubes.Statement.{statement}
 use Rattle.cuberows.proofs.busy_cubes.Tie as tie
 
