@@ -16,8 +16,8 @@
 #ifndef THOLBRINA_H
 #define THOLBRINA_H
 
-/* The version of the library, the header and the programs. A change of a call, a record, a text or an answer raises the second number. */
-#define THOLBRINA_VERSION "0.7.0"
+/* The version of the library, the header and the programs. A change of a call, a record or a text raises the second number. */
+#define THOLBRINA_VERSION "0.6.0"
 
 #include <stddef.h>
 #include <stdint.h>
@@ -62,8 +62,7 @@ static inline size_t tholbrina_extract_work(size_t nx, size_t ny, size_t nz) {
 
 /* The mesh of a grid of nx * ny * nz samples at one grey value. Sample (x, y, z) is samples[s] with s = x + nx * (y + ny * z). A sample is above if it
  * is at least the grey value, else below. A point stands on each grid edge between a sample above and one below, where the grey value is met on the
- * straight line between the two, to the nearest unit, a half towards the sample that is below. So mirroring the volume along an axis mirrors every
- * point's place; the points' order is another then.
+ * straight line between the two, to the nearest unit, halves up.
  *
  * Fills from the front, and leaves the rest of each room as it was:
  *   points     three coordinates a point, in units: x, y, z
@@ -220,8 +219,7 @@ static inline size_t tholbrina_smooth_work(size_t points, size_t triangles) {
 
 /* Rounds of smoothing. In a round every point with mark 0 that has a neighbour (a different point that shares a triangle side with it) moves
  * towards the mean of its neighbours' places of the round before, by weight / 256 of the way, each coordinate to the nearest unit, halves up. All other
- * points stay. The places after the last round fill the second point list, smoothed, of exactly 3V numbers; 0 rounds copy the points. Since halves go up
- * along every axis, the smoothed places of a mirrored volume may differ from the mirrored ones by their rounding.
+ * points stay. The places after the last round fill the second point list, smoothed, of exactly 3V numbers; 0 rounds copy the points.
  *
  * Refusals, in this order:
  *   6   points_len is not 3V, triangles_len is not a multiple of three, V is over 250,000 or T over 500,000

@@ -96,7 +96,6 @@ module _ (mode : Mode) (nx ny nz grey : ℕ) (samples : List ℕ) (before : Room
     pub sides_fit_lem : SidesFit nx ny nz
     pub points_fit : length points ≤ most_points
     pub triangles_fit_lem : length triangles ≤ most_triangles
-    pub count_is : after.point_count ≡ length points
     pub edges_are : edges_left after ≡ points
     pub places_are : (mesh_left after).points ≡ flat_map (place k n grey samples) points
     pub marks_are : (mesh_left after).marks ≡ map (mark k n) points
@@ -113,7 +112,6 @@ module _ (mode : Mode) (nx ny nz grey : ℕ) (samples : List ℕ) (before : Room
         sides_fit_lem = s;
         points_fit = p;
         triangles_fit_lem = t;
-        count_is = refl;
         edges_are = laid_read points before.edges (length points) refl;
         places_are =
             laid_read (flat_map (place k n grey samples) points) before.points (3 * length points) (length_flat 3 (place k n grey samples) place_three points);

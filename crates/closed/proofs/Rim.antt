@@ -1,12 +1,11 @@
 -- The segments of a grid's outer faces have both their ends there, whichever mode cuts its cubes.
-use mathlib.Core.Path.{◌≡◌, subst, ◌∙◌}
+use mathlib.Core.Path.{◌≡◌, subst}
 use mathlib.Core.List.{List}
 use mathlib.Core.Bool.{Bool, true, false, cond, xor}
 use Prim.Native.Nat.{ℕ, ◌+◌, ◌-◌, ◌<◌, ◌≤◌}
 use native.Mathlib.Omega.{arith}
 use Rattle.laws.specs.Sum.{All}
 use Rattle.laws.specs.Mesh.{Arrow, arrow, Ends}
-use Rattle.laws.proofs.Tests.{xor_comm}
 use Rattle.laws.proofs.Sums.{all_map, all_weaken}
 use Rattle.laws.proofs.Lists.{all_flat}
 use Rattle.cube.specs.Cube.{corner_x, corner_y, corner_z}
@@ -22,6 +21,13 @@ use Rattle.closed.specs.Pattern.{Ring, Pattern, LowEdge, Owed}
 use Rattle.closed.proofs.Law.{OuterLaw}
 use Rattle.closed.proofs.Numbered.{OnRim}
 use Rattle.closed.proofs.Cells.{corner, across, by_ends, low_there, top_there}
+
+xor_comm : (a b : Bool) → xor a b ≡ true → xor b a ≡ true
+unfolding xor
+xor_comm true true h = h
+xor_comm true false h = h
+xor_comm false true h = h
+xor_comm false false h = h
 
 module _ (m : Mode) (owed : Owed m) (n : Size) (above : ℕ → Bool) where
   abbrev p : Pattern
@@ -43,7 +49,7 @@ module _ (m : Mode) (owed : Owed m) (n : Size) (above : ℕ → Bool) where
 
     -- a crossed edge of that side is a crossed edge of the grid, on the outer face
     ends_differ : (s : Arrow) → LowEdge m p axis s → xor (up s.from) (up s.to) ≡ true → xor (up (m.low (between s))) (up (high m (between s))) ≡ true
-    ends_differ s e h = by_ends m p axis s e (λ a b. xor (up a) (up b) ≡ true) h (xor_comm (up s.to) (up s.from) ∙ h)
+    ends_differ s e h = by_ends m p axis s e (λ a b. xor (up a) (up b) ≡ true) h (xor_comm (up s.from) (up s.to) h)
 
     edge_on_rim : (s : Arrow) → LowEdge m p axis s → xor (up s.from) (up s.to) ≡ true → On axis last (grid_edge m n x y z (between s))
     edge_on_rim s e h =

@@ -1,12 +1,14 @@
 -- The point of a crossed edge, written.
 use mathlib.Core.Path.{◌≡◌}
 use mathlib.Core.List.{List, [], ◌∷◌}
-use Prim.Native.Nat.{ℕ, ◌+◌, ◌^◌, ◌<◌, ◌≤◌}
+use Prim.Native.Nat.{ℕ, ◌+◌, ◌*◌, ◌^◌, ◌<◌, ◌≤◌}
+use native.Mathlib.Nat.{div-le_self}
 use native.Mathlib.Omega.{arith}
 use lib.ListN.{get_or}
+use Rattle.laws.specs.Nearest.{nearest}
+use Rattle.grid.specs.Limits.{unit}
 use Rattle.grid.specs.Grid.{other_end}
-use Rattle.grid.specs.Point.{offset}
-use Rattle.grid.proofs.Offsets.{offset_most}
+use Rattle.grid.specs.Point.{apart, offset, number}
 use Rattle.rows.specs.declared.Sides.{Sides}
 use Rattle.rows.specs.Rows.{size_of, grid_samples, layer_first}
 use Rattle.rows.proofs.Window.{sample_lent}
@@ -15,7 +17,8 @@ use Rattle.edgepoints.specs.EdgePoint.{most_offset, PointRooms, placed_from, ste
 
 -- the offset of samples of sixteen bits is far below what a coordinate's type holds
 pub offset_fits : (v0 v1 grey : ℕ) → v0 < 2 ^ 16 → v1 < 2 ^ 16 → grey < 2 ^ 16 → offset v0 v1 grey ≤ most_offset
-offset_fits v0 v1 grey a b c = omega (arith, offset_most v0 v1 grey)
+unfolding offset nearest
+offset_fits v0 v1 grey a b c = omega (arith, div-le_self (2 * (unit * apart grey v0) + apart v1 v0) (2 * apart v1 v0))
 
 -- the point that was written, made from the samples that were read, as the definition has it
 pub point_written : (sides : Sides) (grey : ℕ) (samples : List ℕ) (s place axis step number far : ℕ) (p : Point) (before after : PointRooms)

@@ -9,7 +9,7 @@ use Rattle.laws.specs.Values.{list_to}
 use Rattle.laws.specs.Sum.{sum_of}
 use Rattle.laws.specs.Least.{gathered}
 use Rattle.laws.specs.Bits.{bits, bit}
-use Rattle.laws.specs.Nearest.{nearest, nearest_down}
+use Rattle.laws.specs.Nearest.{nearest}
 use Rattle.laws.specs.Order.{is_in}
 use Rattle.laws.specs.Signed.{sum_of_ℤ}
 use Rattle.laws.specs.Mesh.{sides, same_arrow, flat}
@@ -42,7 +42,7 @@ octahedron_points =
     256 ∷ 256 ∷ 128 ∷ 256 ∷ 128 ∷ 256 ∷ 128 ∷ 256 ∷ 256 ∷ 384 ∷ 256 ∷ 256 ∷ 256 ∷ 384 ∷ 256 ∷ 256 ∷ 256 ∷ 384 ∷ []
 
 points_are : centre_points ≡ octahedron_points
-unfolding centre_points flat_map place place_from offset nearest nearest_down coordinate other_end site
+unfolding centre_points flat_map place place_from offset nearest coordinate other_end site
 points_are = rw edges_are
 
 marks_are : centre_marks ≡ replicate 6 0

@@ -1,4 +1,4 @@
--- Document 01, "Figures to hold it against": the rows marked P, with case 246 as request (ii) of document 02 has it and the halves as request (vii) has them, and what a row says of the definitions.
+-- Document 01, "Figures to hold it against": the rows marked P, with case 246 as request (ii) of document 02 has it, and what a row says of the definitions.
 use Rattle.std.specs.Prelude.{◌≡◌, List, [], ◌∷◌, ℕ, length, pos, Float}
 use Rattle.laws.specs.Mesh.{Triangle, triangle}
 use Rattle.cube.specs.Answer.{triangles}
@@ -56,8 +56,7 @@ figures =
     ∷ case_has 9 (triangle 0 4 8 ∷ triangle 1 5 11 ∷ [])
     ∷ case_has 246 (triangle 8 4 1 ∷ triangle 8 1 11 ∷ triangle 8 11 5 ∷ triangle 8 5 0 ∷ [])
     ∷ offset_is 0 3 1 85
-    ∷ offset_is 0 512 1 0
-    ∷ offset_is 512 0 511 1
+    ∷ offset_is 0 512 1 1
     ∷ offset_is 10 0 10 0
     ∷ offset_is 0 5 5 256
     ∷ moves_to 10 (20 ∷ 21 ∷ 21 ∷ []) 256 21

@@ -3,13 +3,10 @@ pub mod Sides
 pub mod Sites
 pub mod Crossings
 pub mod Same
-pub mod Offsets
 pub mod Points
 pub mod Edges
 pub mod Sound
 pub mod Named
 pub mod Empty
 pub mod Plain
-pub mod Mirror
-pub mod MirrorEdges
 pub mod Lent

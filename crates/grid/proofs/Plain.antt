@@ -27,7 +27,7 @@ every_axis : all_to 3 (λ a. all_to 3 (λ axis. eqb (along (2 ^ a) axis) (one_if
 unfolding all_to
 every_axis = refl
 
-pub along_axis : (a axis : ℕ) → a < 3 → axis < 3 → along (2 ^ a) axis ≡ one_if (eqb axis a)
+along_axis : (a axis : ℕ) → a < 3 → axis < 3 → along (2 ^ a) axis ≡ one_if (eqb axis a)
 along_axis a axis h l =
     eqb-true _ _ (all_at 3 (λ axis. eqb (along (2 ^ a) axis) (one_if (eqb axis a))) (all_at 3 (λ a. all_to 3 (λ axis. eqb (along (2 ^ a) axis) (one_if (eqb axis a)))) every_axis a h) axis l)
 

@@ -1,10 +1,9 @@
--- Document 01, "Numbers and sizes" and "Points and order", in their order: the limits, the test of the sides, samples and grid edges, the points, how cubes are cut, the triangles. Mirror is
--- document 02's request (vii), and Work is for the extractor's parts.
+-- Document 01, "Numbers and sizes" and "Points and order", in their order: the limits, the test of the sides, samples and grid edges, the points, how cubes are cut, the triangles. Work is
+-- for the extractor's parts.
 pub mod Limits
 pub mod Sides
 pub mod Grid
 pub mod Point
 pub mod Mode
 pub mod Mesh
-pub mod Mirror
 pub mod Work

@@ -1,7 +1,7 @@
--- The points and their places (document 01, "Points and order", first paragraph; the half as request (vii) of document 02 has it).
-use Rattle.std.specs.Prelude.{List, [], ◌∷◌, Bool, cond, ℕ, ◌+◌, ◌*◌, ◌-◌, ◌/◌, ◌%◌, ltb, get_or}
+-- The points and their places (document 01, "Points and order", first paragraph).
+use Rattle.std.specs.Prelude.{List, [], ◌∷◌, Bool, ℕ, ◌+◌, ◌*◌, ◌-◌, ◌/◌, ◌%◌, get_or}
 use Rattle.laws.specs.Range.{count_to, keep_to}
-use Rattle.laws.specs.Nearest.{nearest, nearest_down}
+use Rattle.laws.specs.Nearest.{nearest}
 use Rattle.grid.specs.Limits.{unit}
 use Rattle.grid.specs.Grid.{Size, Kind, coordinate, along, other_end, edge_count, crossed}
 
@@ -9,9 +9,9 @@ use Rattle.grid.specs.Grid.{Size, Kind, coordinate, along, other_end, edge_count
 abbrev pub apart : ℕ → ℕ → ℕ
 apart a b = (a - b) + (b - a)
 
--- 256 · |g - v0| / |v1 - v0| to the nearest whole number; a half goes towards the below sample: down if v0 is below the grey value, else up
+-- 256 · |g - v0| / |v1 - v0| to the nearest whole number, halves up
 unfoldable pub offset : ℕ → ℕ → ℕ → ℕ
-offset v0 v1 grey = cond (ltb v0 grey) (nearest_down (unit * apart grey v0) (apart v1 v0)) (nearest (unit * apart grey v0) (apart v1 v0))
+offset v0 v1 grey = nearest (unit * apart grey v0) (apart v1 v0)
 
 module _ (k : Kind) (n : Size) where
   -- one point per crossed grid edge, in rising order of grid edge number

@@ -1,7 +1,5 @@
 // Sizes and limits, the test of the sides, and the leaves of a point's place and mark.
-ghost use Rattle.std.specs.Prelude.{◌≡◌, ◌*◌, ◌-◌, ◌<◌, ◌≤◌, ltb};
-ghost use Rattle.laws.specs.Range.{one_if};
-ghost use Rattle.grid.specs.Limits.{unit};
+ghost use Rattle.std.specs.Prelude.{◌≡◌, ◌<◌};
 ghost use Rattle.grid.specs.Sides.{side_fits, sides_fit};
 ghost use Rattle.grid.specs.Grid.{is_end};
 ghost use Rattle.grid.specs.Point.{apart, offset as offset_of};
@@ -53,32 +51,13 @@ fn apart_by(a: u16, b: u16) -> u32
     }
 }
 
-// 512 times a distance, less 1 or 0.
-fn doubled(far: u16, less: u32) -> u32
-    requires { less ≤ far }
-    ensures { result ≡ 2 * (unit * far) - less }
-{
-    2 * (UNIT * (far as u32)) - less
-}
-
-// 512 times how far the grey value is from v0, less 1 if v0 is below.
-fn dividend(v0: u16, grey: u16) -> u32
-    ensures { result ≡ 2 * (unit * apart grey v0) - one_if (ltb v0 grey) }
-{
-    if v0 < grey {
-        doubled(grey - v0, 1)
-    } else {
-        doubled(v0 - grey, 0)
-    }
-}
-
-// How far along a crossed edge its point stands, from the lower end v0 to v1: 0 to 256. One less is divided if v0 is below, so that a half goes down.
+// How far along a crossed edge its point stands, from the lower end v0 to v1: 0 to 256.
 pub fn offset(v0: u16, v1: u16, grey: u16) -> u32
     requires { v0 ≡ v1 → ⊥ }
     ensures { result ≡ offset_of v0 v1 grey }
 {
     let whole = apart_by(v1, v0);
-    (dividend(v0, grey) + whole) / (2 * whole)
+    (2 * (UNIT * apart_by(grey, v0)) + whole) / (2 * whole)
 }
 
 // Is a coordinate the first or the last along its side?

@@ -5,7 +5,6 @@ pub mod Box
 pub mod Boxes
 pub mod Keep
 pub mod Parted
-pub mod Turned
 pub mod Rows
 pub mod Sums
 pub mod Lists

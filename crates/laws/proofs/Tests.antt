@@ -120,14 +120,6 @@ unfolding xor
 same_ends true = refl
 same_ends false = refl
 
--- two tests differ whichever comes first
-pub xor_comm : (a b : Bool) → xor a b ≡ xor b a
-unfolding xor
-xor_comm true true = refl
-xor_comm true false = refl
-xor_comm false true = refl
-xor_comm false false = refl
-
 -- a test that counts nothing fails
 pub is_none : (b : Bool) → one_if b ≡ 0 → b ≡ false
 is_none true h = absurd (omega arith)

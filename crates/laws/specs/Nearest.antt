@@ -1,10 +1,6 @@
 -- Whole numbers divided to the nearest.
-use Rattle.std.specs.Prelude.{ℕ, ◌+◌, ◌*◌, ◌-◌, ◌/◌}
+use Rattle.std.specs.Prelude.{ℕ, ◌+◌, ◌*◌, ◌/◌}
 
 -- a / b to the nearest whole number, halves up
 unfoldable pub nearest : ℕ → ℕ → ℕ
 nearest a b = (2 * a + b) / (2 * b)
-
--- a / b to the nearest whole number, halves down
-unfoldable pub nearest_down : ℕ → ℕ → ℕ
-nearest_down a b = (2 * a + b - 1) / (2 * b)

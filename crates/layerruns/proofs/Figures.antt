@@ -6,7 +6,7 @@ use Prim.Native.Nat.{ℕ}
 use lib.ListN.{replicate}
 use Rattle.laws.specs.Range.{join_to, keep_from}
 use Rattle.laws.specs.Bits.{bits, bit}
-use Rattle.laws.specs.Nearest.{nearest, nearest_down}
+use Rattle.laws.specs.Nearest.{nearest}
 use Rattle.laws.specs.Mesh.{triangle}
 use Rattle.cube.specs.Cube.{case_of, is_above}
 use Rattle.cube.specs.Face.{cuts, way_round, face_segments, segments_of}
@@ -37,7 +37,7 @@ first_layer = refl
 
 second_layer : layer_hands (state_of 3 1 dark) 1 middle
     ≡ record { places = 256 ∷ 256 ∷ 128 ∷ []; edges = 14 ∷ []; marks = 0 ∷ []; triangles = triangle 36 14 31 ∷ triangle 39 31 14 ∷ triangle 36 40 14 ∷ triangle 39 14 40 ∷ [] }
-unfolding layer_hands layer_through layer_edges layer_triangles keep_from join_to flat_map cube_triangles case_at case_of bits corner_site site is_above_grey caseTriangles fan_of loops segments segments_of face_segments cuts way_round is_above bit grid_edge crossed crossed_from is_there fits_along coordinate side other_end xor place place_from offset nearest nearest_down mark some_face on_face on_face_from is_outermost
+unfolding layer_hands layer_through layer_edges layer_triangles keep_from join_to flat_map cube_triangles case_at case_of bits corner_site site is_above_grey caseTriangles fan_of loops segments segments_of face_segments cuts way_round is_above bit grid_edge crossed crossed_from is_there fits_along coordinate side other_end xor place place_from offset nearest mark some_face on_face on_face_from is_outermost
 second_layer = refl
 
 third_layer : layer_hands (state_of 3 2 middle) 2 dark
@@ -47,7 +47,7 @@ third_layer : layer_hands (state_of 3 2 middle) 2 dark
       marks = replicate 5 0;
       triangles = triangle 36 31 41 ∷ triangle 39 41 31 ∷ triangle 36 41 40 ∷ triangle 39 40 41 ∷ [];
     }
-unfolding layer_hands layer_through layer_edges layer_triangles keep_from join_to flat_map cube_triangles case_at case_of bits corner_site site is_above_grey caseTriangles fan_of loops segments segments_of face_segments cuts way_round is_above bit grid_edge crossed crossed_from is_there fits_along coordinate side other_end xor place place_from offset nearest nearest_down mark some_face on_face on_face_from is_outermost
+unfolding layer_hands layer_through layer_edges layer_triangles keep_from join_to flat_map cube_triangles case_at case_of bits corner_site site is_above_grey caseTriangles fan_of loops segments segments_of face_segments cuts way_round is_above bit grid_edge crossed crossed_from is_there fits_along coordinate side other_end xor place place_from offset nearest mark some_face on_face on_face_from is_outermost
 third_layer = refl
 
 closing : closing_hands (state_of 3 3 dark) ≡ nothing
@@ -57,7 +57,7 @@ closing = refl
 -- document 01's example: sample (0, 0, 0) is 100
 example_layer : layer_hands (state_of 2 1 (100 ∷ 0 ∷ 0 ∷ 0 ∷ [])) 1 (replicate 4 0)
     ≡ record { places = 128 ∷ 0 ∷ 0 ∷ 0 ∷ 128 ∷ 0 ∷ 0 ∷ 0 ∷ 128 ∷ []; edges = 0 ∷ 1 ∷ 2 ∷ []; marks = 1 ∷ 1 ∷ 1 ∷ []; triangles = triangle 0 1 2 ∷ [] }
-unfolding layer_hands layer_through layer_edges layer_triangles keep_from join_to flat_map cube_triangles case_at case_of bits corner_site site is_above_grey caseTriangles fan_of loops segments segments_of face_segments cuts way_round is_above bit grid_edge crossed crossed_from is_there fits_along coordinate side other_end xor place place_from offset nearest nearest_down mark some_face on_face on_face_from is_outermost
+unfolding layer_hands layer_through layer_edges layer_triangles keep_from join_to flat_map cube_triangles case_at case_of bits corner_site site is_above_grey caseTriangles fan_of loops segments segments_of face_segments cuts way_round is_above bit grid_edge crossed crossed_from is_there fits_along coordinate side other_end xor place place_from offset nearest mark some_face on_face on_face_from is_outermost
 example_layer = refl
 
 example_closing : closing_hands (state_of 2 2 (replicate 4 0)) ≡ nothing

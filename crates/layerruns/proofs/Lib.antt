@@ -1,4 +1,4 @@
--- What a granted call says and hands out; the state in its room; a volume that grows; one call more; what holds of every run; what is put together of a closed one, demand 3 of it, and its mirror image; two runs
+-- What a granted call says and hands out; the state in its room; a volume that grows; one call more; what holds of every run; what is put together of a closed one, and demand 3 of it; two runs
 -- that took the same layers; when every call is granted; and document 01's grids, layer by layer.
 pub mod Granted
 pub mod Standing
@@ -7,7 +7,6 @@ pub mod Steps
 pub mod RunState
 pub mod PutTogether
 pub mod TogetherHere
-pub mod LayersMirrored
 pub mod SameSoFar
 pub mod GrantedAlike
 pub mod Figures

@@ -1,3 +1,2 @@
--- What is said of an extracted mesh is said of a query's mesh too: all of demand 3, and its mirror image.
+-- That all of demand 3 is said of a query's mesh too.
 pub mod QueriedHere
-pub mod QueryMirrored

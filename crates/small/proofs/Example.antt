@@ -12,7 +12,7 @@ use Rattle.laws.specs.Values.{list_to}
 use Rattle.laws.specs.Sum.{all_of}
 use Rattle.laws.specs.Least.{gathered}
 use Rattle.laws.specs.Bits.{bits, bit}
-use Rattle.laws.specs.Nearest.{nearest, nearest_down}
+use Rattle.laws.specs.Nearest.{nearest}
 use Rattle.laws.specs.Order.{is_in}
 use Rattle.laws.specs.Signed.{sum_of_ℤ}
 use Rattle.laws.specs.Mesh.{sides, same_arrow, flat}
@@ -60,7 +60,7 @@ abbrev corner : Mesh
 corner = record { points = 128 ∷ 0 ∷ 0 ∷ 0 ∷ 128 ∷ 0 ∷ 0 ∷ 0 ∷ 128 ∷ []; triangles = 0 ∷ 1 ∷ 2 ∷ []; marks = 1 ∷ 1 ∷ 1 ∷ [] }
 
 mesh_is : smoothed_mesh example_numbers example_samples ≡ corner
-unfolding example_numbers example_samples smoothed_mesh after_rounds rounds extracted_mesh grid_edges point_edges keep_to join_to crossed crossed_from is_there fits_along coordinate side other_end site is_above_grey xor flat_map place place_from offset nearest nearest_down mark some_face on_face on_face_from is_outermost flat mesh edge_mesh join_box cube_triangles case_at case_of bits corner_site triangles fan_of loops segments segments_of face_segments cuts way_round is_above bit grid_edge number count_to sum_to
+unfolding example_numbers example_samples smoothed_mesh after_rounds rounds extracted_mesh grid_edges point_edges keep_to join_to crossed crossed_from is_there fits_along coordinate side other_end site is_above_grey xor flat_map place place_from offset nearest mark some_face on_face on_face_from is_outermost flat mesh edge_mesh join_box cube_triangles case_at case_of bits corner_site triangles fan_of loops segments segments_of face_segments cuts way_round is_above bit grid_edge number count_to sum_to
 mesh_is = refl
 
 -- one shell, and the text

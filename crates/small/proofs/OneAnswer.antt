@@ -68,18 +68,13 @@ module _ (input : List ℕ) (h h' : Head) (s s' : List ℕ) (small : Small h s) 
   same_samples : s ≡ s'
   same_samples = samples_of_granted h h' s s' small small' same
 
--- so what answers the text of a grid is a print of its mesh
-pub prints_grid : (input : List ℕ) (h : Head) (samples text : List ℕ) → Small h samples → input ≡ grid_text h samples → Answers input text
-    → Prints (smoothed_mesh h samples) (grid_edges h samples) text
-unfolding granted
-prints_grid input h s text small e (printed h' s' small' e' p') =
-    let k = same_head input h h' s s' small small' e e' in
-    let l = same_samples input h h' s s' small small' e e' in
-    subst (λ s. Prints (smoothed_mesh h s) (grid_edges h s) text) (sym l) (subst (λ h. Prints (smoothed_mesh h s') (grid_edges h s') text) (sym k) p')
-prints_grid input h s text small e (refused n r) = absurd (n (ap (λ o. o.answer.number) (grid_of_text input h s small e)))
-
 pub one_answer : (input a b : List ℕ) → Answers input a → Answers input b → a ≡ b
 unfolding granted
-one_answer input a b (printed h s small e p) other = one_print (smoothed_mesh h s) (grid_edges h s) a b p (prints_grid input h s b small e other)
+one_answer input a b (printed h s small e p) (printed h' s' small' e' p') =
+    let k = same_head input h h' s s' small small' e e' in
+    let l = same_samples input h h' s s' small small' e e' in
+    let q = subst (λ h. Prints (smoothed_mesh h s') (grid_edges h s') b) (sym k) p' in
+    one_print (smoothed_mesh h s) (grid_edges h s) a b p (subst (λ s. Prints (smoothed_mesh h s) (grid_edges h s) b) (sym l) q)
+one_answer input a b (printed h s small e p) (refused n r) = absurd (n (ap (λ o. o.answer.number) (grid_of_text input h s small e)))
 one_answer input a b (refused n r) (printed h s small e p) = absurd (n (ap (λ o. o.answer.number) (grid_of_text input h s small e)))
 one_answer input a b (refused n r) (refused n' r') = r ∙ sym r'

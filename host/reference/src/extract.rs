@@ -139,7 +139,7 @@ pub fn extract(
     put_mesh(&point_list, &triangle_list, points, edges, marks, triangles)
 }
 
-/// The points of a grid that is not refused, and its triangles with document
+/// The points and the triangles of a grid that is not refused, with document
 /// 01's fans, to compare with.
 pub fn mesh_of_document_01(
     sides: [u32; 3],

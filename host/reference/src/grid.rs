@@ -1,7 +1,5 @@
 //! The points and triangles of a grid, as lists.
 
-use std::cmp::Ordering;
-
 use crate::cube;
 
 /// "each side nx, ny, nz: 2 to 64": the least side.
@@ -38,24 +36,15 @@ pub struct Point {
     pub mark: u8,
 }
 
-/// "256·|g − v0| / |v1 − v0| to the nearest whole number" (g is the grey value).
-/// "A half shall go towards the below sample": this sentence of document 02
-/// stands in place of document 01's "halves up".
+/// "256·|g − v0| / |v1 − v0| to the nearest whole number, halves up (g is the
+/// grey value)."
 ///
 /// `v0` and `v1` are the samples at the lower and the upper end of a crossed
-/// edge: one of them is below, the other above.
+/// edge; they differ.
 pub fn offset(v0: u16, v1: u16, grey: u16) -> u32 {
-    let dividend = 256 * u32::from(grey.abs_diff(v0));
-    let divisor = u32::from(v1.abs_diff(v0));
-    let (whole, remainder) = (dividend / divisor, dividend % divisor);
-    let lower_end_is_below = v0 < grey;
-    match (2 * remainder).cmp(&divisor) {
-        Ordering::Less => whole,
-        Ordering::Greater => whole + 1,
-        // Of the two nearest, the smaller one is nearer to the lower end.
-        Ordering::Equal if lower_end_is_below => whole,
-        Ordering::Equal => whole + 1,
-    }
+    let numerator = 256 * u32::from(grey.abs_diff(v0));
+    let denominator = u32::from(v1.abs_diff(v0));
+    (2 * numerator + denominator) / (2 * denominator)
 }
 
 impl<'a> Grid<'a> {

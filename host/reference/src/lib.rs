@@ -1,7 +1,7 @@
 //! A plain reading of document 01 ("Requirements of the build and its rules")
-//! and of requests (i) to (iii) and (v) to (vii) of document 02 ("Hear the box of
-//! a void", "Flat triangles in a cube face", "Reading a mesh back", "Layers as
-//! they come off the scanner", "Trying many grey values", "Mirror scans").
+//! and of requests (i) to (iii), (v) and (vi) of document 02 ("Hear the box of a
+//! void", "Flat triangles in a cube face", "Reading a mesh back", "Layers as
+//! they come off the scanner", "Trying many grey values").
 //!
 //! The crate was written from these documents alone. It is a second program to
 //! compare a proved library with, bit for bit: same answers, same content of

@@ -32,12 +32,6 @@ Its VOLUME is plain samples if --size is given, else the text of a grid.
 --from A gives the first of evenly spaced grey values instead, 0 to {most_grey}.
 --to B gives the greatest that they may have, 0 to {most_grey}.
 --step S gives how far each is above the one before, at least 1.
-To compare a left and a right casting, write tholbrina mirror VOLUME.
-It says how many points stand at mirrored places, and smooths nothing.
-Its VOLUME is as after list, but no mesh.
---axis A gives the axis to mirror along, which is x, y or z.
---other V gives the second volume, of the same size and grey value.
-Without it VOLUME is compared with its own mirror image.
 --help says these lines.
 --version says the version.
 ",
@@ -50,7 +44,6 @@ pub enum Asked {
     Version,
     List(List),
     Try(Try),
-    Mirror(Mirror),
 }
 
 pub struct List {
@@ -74,20 +67,6 @@ pub struct Try {
     /// The grey values, in the order in which they are tried.
     pub greys: Vec<u16>,
 }
-
-pub struct Mirror {
-    /// The file, or - for standard input.
-    pub volume: String,
-    /// The second volume likewise, if it is not the first one mirrored. Not both are standard input.
-    pub other: Option<String>,
-    /// The sides and the grey value of files of plain samples.
-    pub plain: Option<([u32; 3], u16)>,
-    /// The axis to mirror along, a place in [`AXES`].
-    pub axis: usize,
-}
-
-/// The axes by name.
-pub const AXES: [&str; 3] = ["x", "y", "z"];
 
 /// The words after the command.
 type Rest<'a> = Peekable<Iter<'a, String>>;
@@ -113,27 +92,12 @@ fn grey(name: &str, number: u32) -> Result<u16, String> {
         .map_err(|_| format!("{number} after {name} is above {}; {HELP}.", u16::MAX))
 }
 
-/// The sides and the grey value of plain samples, which go together.
-fn plain(sides: Option<[u32; 3]>, level: Option<u32>) -> Result<Option<([u32; 3], u16)>, String> {
-    match (sides, level) {
-        (None, None) => Ok(None),
-        (Some(sides), Some(level)) => Ok(Some((sides, grey("--grey", level)?))),
-        (Some(_), None) => Err(format!("--size is there without --grey; {HELP}.")),
-        (None, Some(_)) => Err(format!("--grey is there without --size; {HELP}.")),
-    }
-}
-
-/// Whether a word is written as an option and not as a volume.
-fn is_option(word: &str) -> bool {
-    word.starts_with('-') && word != "-"
-}
-
 /// A word that is no option of the command: the volume, or --help or --version, which are asked for then.
 fn other(command: &str, word: &str, volume: &mut Option<String>) -> Result<Option<Asked>, String> {
     match word {
         "--help" => return Ok(Some(Asked::Help)),
         "--version" => return Ok(Some(Asked::Version)),
-        word if is_option(word) => {
+        word if word.starts_with('-') && word != "-" => {
             return Err(format!("{word} is not an option of {command}; {HELP}."));
         }
         word if volume.is_some() => {
@@ -153,7 +117,6 @@ pub fn asked(words: &[String]) -> Result<Asked, String> {
     match rest.next().map(String::as_str) {
         Some("list") => list(rest),
         Some("try") => tries(rest),
-        Some("mirror") => mirror(rest),
         Some("--help") => Ok(Asked::Help),
         Some("--version") => Ok(Asked::Version),
         Some(other) => Err(format!("{other} is not a command; {HELP}.")),
@@ -190,7 +153,12 @@ fn list(mut rest: Rest<'_>) -> Result<Asked, String> {
         }
     }
     list.volume = given("list", volume)?;
-    list.plain = plain(sides, level)?;
+    list.plain = match (sides, level) {
+        (None, None) => None,
+        (Some(sides), Some(level)) => Some((sides, grey("--grey", level)?)),
+        (Some(_), None) => return Err(format!("--size is there without --grey; {HELP}.")),
+        (None, Some(_)) => return Err(format!("--grey is there without --size; {HELP}.")),
+    };
     if list.layers && list.plain.is_none() {
         return Err(format!(
             "--layers is there without --size and --grey; {HELP}."
@@ -280,55 +248,5 @@ fn tries(mut rest: Rest<'_>) -> Result<Asked, String> {
         volume,
         size: sides,
         greys,
-    }))
-}
-
-/// The axis that follows an option.
-fn axis(name: &str, rest: &mut Rest<'_>) -> Result<usize, String> {
-    let word = rest
-        .next()
-        .ok_or_else(|| format!("An axis is missing after {name}; {HELP}."))?;
-    AXES.iter()
-        .position(|axis| axis == word)
-        .ok_or_else(|| format!("{word} after {name} is not x, y or z; {HELP}."))
-}
-
-/// The volume that follows an option.
-fn volume_after(name: &str, rest: &mut Rest<'_>) -> Result<String, String> {
-    let word = rest
-        .next()
-        .ok_or_else(|| format!("A volume is missing after {name}; {HELP}."))?;
-    match is_option(word) {
-        true => Err(format!("{word} after {name} is not a volume; {HELP}.")),
-        false => Ok(word.to_string()),
-    }
-}
-
-/// The words after mirror.
-fn mirror(mut rest: Rest<'_>) -> Result<Asked, String> {
-    let (mut volume, mut second, mut along) = (None, None, None);
-    let (mut sides, mut level) = (None, None);
-    while let Some(word) = rest.next() {
-        match word.as_str() {
-            "--size" => sides = Some(size(word, &mut rest)?),
-            "--grey" => level = Some(number(word, &mut rest)?),
-            "--axis" => along = Some(axis(word, &mut rest)?),
-            "--other" => second = Some(volume_after(word, &mut rest)?),
-            word => {
-                if let Some(asked) = other("mirror", word, &mut volume)? {
-                    return Ok(asked);
-                }
-            }
-        }
-    }
-    let volume = given("mirror", volume)?;
-    if volume == "-" && second.as_ref() == Some(&volume) {
-        return Err(format!("- is there for both volumes; {HELP}."));
-    }
-    Ok(Asked::Mirror(Mirror {
-        volume,
-        other: second,
-        plain: plain(sides, level)?,
-        axis: along.ok_or_else(|| format!("The axis is missing after mirror; {HELP}."))?,
     }))
 }

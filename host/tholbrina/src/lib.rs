@@ -1,9 +1,7 @@
-//! What the command line tool does: open a volume or a mesh, call the proved library, and say the list, what each of many grey values gives, or how many points of two
-//! volumes stand at mirrored places.
+//! What the command line tool does: open a volume or a mesh, call the proved library, and say the list, or what each of many grey values gives.
 
 mod asked;
 mod layers;
-mod mirror;
 mod opened;
 mod said;
 mod tries;
@@ -22,7 +20,6 @@ pub fn run(words: &[String], standard_input: &mut dyn Read) -> Result<String, St
         Asked::Version => Ok(format!("tholbrina {}\n", env!("THOLBRINA_VERSION"))),
         Asked::List(asked) => list(&asked, standard_input),
         Asked::Try(asked) => tries::said(&asked, standard_input),
-        Asked::Mirror(asked) => mirror::said(&asked, standard_input),
     }
 }
 

@@ -1,5 +1,4 @@
-//! tholbrina list VOLUME: the voids of a casting, in sentences. tholbrina try VOLUME: many grey values, a sentence each. tholbrina mirror VOLUME: how
-//! many points stand at mirrored places, in one sentence.
+//! tholbrina list VOLUME: the voids of a casting, in sentences. tholbrina try VOLUME: many grey values, a sentence each.
 
 use std::io::Write;
 use std::process::ExitCode;

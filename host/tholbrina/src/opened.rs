@@ -60,18 +60,8 @@ pub fn bytes(name: &str, from: &mut dyn Read) -> Result<Vec<u8>, String> {
 }
 
 /// A text whose first letter is M is that of a mesh.
-fn is_mesh(text: &[u8]) -> bool {
+pub fn is_mesh(text: &[u8]) -> bool {
     text.starts_with(b"M")
-}
-
-/// The text of a grid, where that of a mesh will not do.
-pub fn grid_text(text: &[u8]) -> Result<(Volume, Settings), String> {
-    match is_mesh(text) {
-        true => Err(
-            "The volume is the text of a mesh, which has no samples; give the volume that the mesh was made of.".to_string(),
-        ),
-        false => volume::text(text),
-    }
 }
 
 fn text(bytes: &[u8]) -> Result<Opened, String> {
@@ -90,8 +80,7 @@ fn as_it_is(raw: Surface) -> Opened {
     }
 }
 
-/// The surface of a volume at one grey value.
-pub fn extracted(volume: &Volume, grey: u16) -> Result<Surface, String> {
+fn extracted(volume: &Volume, grey: u16) -> Result<Surface, String> {
     Surface::extract(volume.sides, grey, &volume.samples).map_err(refused)
 }
 

@@ -1,14 +1,14 @@
-//! The list as it is heard: the count first, then a line of plain sentences a shell, or a sentence a grey value, or one of two volumes. No table, no colour,
-//! every number once.
+//! The list as it is heard: the count first, then a line of plain sentences a shell, or a sentence a grey value. No table, no colour, every number once.
 
 use std::fmt::Write;
 
-use crate::mirror::Compared;
-use crate::volume::UNITS;
 use viewer::{Answer, Refusal, Shell, Shells};
 
+/// The side of a voxel in units, in which places are told.
+const UNITS: f64 = 256.0;
+
 /// Six times the volume of a voxel, in cubes of a unit.
-const VOXEL: f64 = (6 * UNITS * UNITS * UNITS) as f64;
+const VOXEL: f64 = 6.0 * UNITS * UNITS * UNITS;
 
 /// What a shell is by its sign: a void inside metal counts negative.
 fn kind(shell: &Shell) -> &'static str {
@@ -91,29 +91,10 @@ pub fn tries(sentences: &[String]) -> String {
     text
 }
 
-/// How many points of the second volume stand at the mirrored places of the first along an axis and how many do not, and how many of the first have none there. If
-/// no other volume is given, the second is the mirror image of the first.
-pub fn mirrored(axis: &str, other: bool, compared: &Compared) -> String {
-    let (second, first) = match other {
-        true => ("the second volume", "the first"),
-        false => ("the mirror image", "the volume"),
-    };
-    let stand = counted(compared.stand, "point stands", "points stand");
-    let apart = counted(compared.apart, "does not", "do not");
-    let alone = counted(
-        compared.alone,
-        &format!("point of {first} has none of {second} at its mirrored place"),
-        &format!("points of {first} have none of {second} at their mirrored place"),
-    );
-    format!(
-        "Of {second} {stand} at the mirrored places of {first} along {axis} and {apart}; {alone}.\n"
-    )
-}
-
 /// A coordinate in voxels, to three decimals. The quotient is exact, since a unit is 1/256 of a voxel; as with every number of the list it is then rounded to the
 /// nearest, a half to the even decimal. Different coordinates stay different, since a unit is more than 0.003.
 fn voxels(coordinate: u32) -> String {
-    format!("{:.3}", f64::from(coordinate) / f64::from(UNITS))
+    format!("{:.3}", f64::from(coordinate) / UNITS)
 }
 
 /// Where a shell lies: "from 10.250 to 13.500 along x, 4.000 to 7.125 along y and at 3.000 along z". One place along an axis is one number. "From" and "at" are
@@ -145,7 +126,7 @@ fn bend(shells: &Shells, answers: &[Answer], shell: usize) -> String {
     let (mut points, mut greatest, mut sum, mut areas) = (0, 0.0f64, 0.0, 0.0);
     for (&number, answer) in shells.numbers.iter().zip(answers) {
         if let (true, &Answer::Bent(area, [x, y, z])) = (number as usize == shell, answer) {
-            let bend = f64::from(UNITS) * (x * x + y * y + z * z).sqrt();
+            let bend = UNITS * (x * x + y * y + z * z).sqrt();
             points += 1;
             greatest = greatest.max(bend);
             sum += area * bend;

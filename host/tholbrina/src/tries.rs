@@ -3,7 +3,7 @@
 use std::io::Read;
 
 use crate::asked::Try;
-use crate::opened::{bytes, grid_text, source};
+use crate::opened::{bytes, is_mesh, source};
 use crate::volume::{self, Volume};
 use crate::{refused, said};
 use viewer::{Refusal, Summary};
@@ -26,7 +26,10 @@ fn open(asked: &Try, standard_input: &mut dyn Read) -> Result<Volume, String> {
     let bytes = bytes(name, &mut *source(name, standard_input)?)?;
     match asked.size {
         Some(sides) => volume::plain(sides, &bytes),
-        None => Ok(grid_text(&bytes)?.0),
+        None if is_mesh(&bytes) => Err(
+            "The volume is the text of a mesh, which has no samples; give the volume that the mesh was made of.".to_string(),
+        ),
+        None => Ok(volume::text(&bytes)?.0),
     }
 }
 

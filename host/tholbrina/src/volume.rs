@@ -3,9 +3,6 @@
 use crate::{refused, sentence};
 use viewer::{Refusal, LEAST_SIDE, MOST_SIDE};
 
-/// The side of a voxel in units, in which places are told.
-pub const UNITS: u32 = 256;
-
 pub struct Volume {
     pub sides: [u32; 3],
     pub samples: Vec<u16>,

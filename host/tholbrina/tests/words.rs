@@ -35,12 +35,6 @@ Its VOLUME is plain samples if --size is given, else the text of a grid.
 --from A gives the first of evenly spaced grey values instead, 0 to 65535.
 --to B gives the greatest that they may have, 0 to 65535.
 --step S gives how far each is above the one before, at least 1.
-To compare a left and a right casting, write tholbrina mirror VOLUME.
-It says how many points stand at mirrored places, and smooths nothing.
-Its VOLUME is as after list, but no mesh.
---axis A gives the axis to mirror along, which is x, y or z.
---other V gives the second volume, of the same size and grey value.
-Without it VOLUME is compared with its own mirror image.
 --help says these lines.
 --version says the version.
 ";
@@ -50,7 +44,6 @@ fn help() {
     assert_eq!(said(&["--help"]), HELP);
     assert_eq!(said(&["list", "no-such-volume", "--help"]), HELP);
     assert_eq!(said(&["try", "--greys", "1", "--help"]), HELP);
-    assert_eq!(said(&["mirror", "--axis", "x", "--help"]), HELP);
 }
 
 #[test]
@@ -63,7 +56,6 @@ fn the_version_is_the_header_s() {
     assert!(header.contains(&format!("\n#define THOLBRINA_VERSION \"{version}\"\n")));
     assert_eq!(said(&["list", "--version"]), text);
     assert_eq!(said(&["try", "--version"]), text);
-    assert_eq!(said(&["mirror", "--version"]), text);
 }
 
 /// These words are answered with one sentence of this start.
@@ -87,10 +79,6 @@ fn a_wrong_word_is_named() {
         (
             &["list", "a", "--greys", "1"],
             "--greys is not an option of list",
-        ),
-        (
-            &["list", "a", "--axis", "x"],
-            "--axis is not an option of list",
         ),
         (
             &["list", "a", "--size", "2", "2"],
@@ -197,7 +185,6 @@ const TRIES: &[[&str; 2]] = &[
     ["--greys 1 --layers", "--layers is not an option of try"],
     ["--greys 1 --rounds 2", "--rounds is not an option of try"],
     ["--greys 1 --mesh", "--mesh is not an option of try"],
-    ["--greys 1 --other b", "--other is not an option of try"],
     ["--colour", "--colour is not an option of try"],
 ];
 
@@ -215,67 +202,6 @@ fn a_wrong_word_to_try_is_named() {
     assert_eq!(
         output.stderr,
         b"The grey values are missing after try; tholbrina --help says what can be written.\n"
-    );
-}
-
-/// The words after a volume to mirror, parted by spaces, and what is wrong with them.
-const MIRRORS: &[[&str; 2]] = &[
-    ["", "The axis is missing after mirror"],
-    ["--other b", "The axis is missing after mirror"],
-    [
-        "--size 2 2 2 --grey 1 --other b",
-        "The axis is missing after mirror",
-    ],
-    ["--axis", "An axis is missing after --axis"],
-    ["--axis w", "w after --axis is not x, y or z"],
-    ["--axis X", "X after --axis is not x, y or z"],
-    ["--axis xy", "xy after --axis is not x, y or z"],
-    ["--axis 0", "0 after --axis is not x, y or z"],
-    ["--axis --other b", "--other after --axis is not x, y or z"],
-    ["--axis x --other", "A volume is missing after --other"],
-    ["--other --axis x", "--axis after --other is not a volume"],
-    ["--axis x b", "b is one volume too many"],
-    ["--axis x y", "y is one volume too many"],
-    ["--axis x --other b c", "c is one volume too many"],
-    ["--axis x --size 2 2", "A number is missing after --size"],
-    ["--axis x --size 2 2 2", "--size is there without --grey"],
-    ["--axis x --grey 2", "--grey is there without --size"],
-    [
-        "--axis x --size 2 2 2 --grey 65536",
-        "65536 after --grey is above 65535",
-    ],
-    [
-        "--axis x --size 2 2 z --grey 5",
-        "z after --size is not a whole number",
-    ],
-    ["--axis x --layers", "--layers is not an option of mirror"],
-    ["--axis x --rounds 2", "--rounds is not an option of mirror"],
-    ["--axis x --mesh", "--mesh is not an option of mirror"],
-    ["--axis x --greys 1", "--greys is not an option of mirror"],
-    ["--colour", "--colour is not an option of mirror"],
-];
-
-#[test]
-fn a_wrong_word_to_mirror_is_named() {
-    for [words, start] in MIRRORS {
-        let words: Vec<&str> = words.split_whitespace().collect();
-        wrong(&[&["mirror", "a"], &words[..]].concat(), start);
-    }
-    wrong(&["mirror"], "The volume is missing after mirror");
-    wrong(
-        &["mirror", "--axis", "x", "--other", "b"],
-        "The volume is missing after mirror",
-    );
-    wrong(
-        &["mirror", "-", "--axis", "x", "--other", "-"],
-        "- is there for both volumes",
-    );
-    let output = tool(&["mirror", "a"], b"");
-    assert_eq!(output.status.code(), Some(1));
-    assert_eq!(output.stdout, b"");
-    assert_eq!(
-        output.stderr,
-        b"The axis is missing after mirror; tholbrina --help says what can be written.\n"
     );
 }
 

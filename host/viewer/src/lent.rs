@@ -95,8 +95,7 @@ pub struct Rooms<'a> {
     pub work: &'a mut [u32],
 }
 
-/// The mesh of a grid at one grey value, into lent rooms. Sample (x, y, z) is samples[x + nx (y + ny z)]. A point stands at the nearest unit, a half
-/// towards the sample that is below. Refusals: 1, 2, 3, 4, 5.
+/// The mesh of a grid at one grey value, into lent rooms. Sample (x, y, z) is samples[x + nx (y + ny z)]. Refusals: 1, 2, 3, 4, 5.
 pub fn extract(sides: [u32; 3], grey: u16, samples: &[u16], rooms: Rooms<'_>) -> Extracted {
     let mut points = 0;
     let mut triangles = 0;

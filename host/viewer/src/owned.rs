@@ -40,8 +40,7 @@ pub enum Answer {
 }
 
 impl Surface {
-    /// The surface of a grid at one grey value. Sample (x, y, z) is samples[x + nx (y + ny z)]. A point stands at the nearest unit, a half towards the
-    /// sample that is below, so that mirroring the samples along an axis mirrors every point's place.
+    /// The surface of a grid at one grey value. Sample (x, y, z) is samples[x + nx (y + ny z)].
     pub fn extract(sides: [u32; 3], grey: u16, samples: &[u16]) -> Result<Surface, Refusal> {
         Surface::filled(samples.len(), |rooms| {
             lent::extract(sides, grey, samples, rooms)
@@ -114,7 +113,7 @@ impl Surface {
         }
     }
 
-    /// The same surface with its points smoothed. Halves go up here, so that smoothed places of mirrored samples may differ by their rounding.
+    /// The same surface with its points smoothed.
     pub fn smooth(&self, rounds: u32, weight: u32) -> Result<Surface, Refusal> {
         Ok(Surface {
             points: self.mesh().smooth(rounds, weight)?,

@@ -1,9 +1,9 @@
-//! The extractor: figures, limits, refusals, rooms, a second way to the same
-//! mesh, and mirrored grids.
+//! The extractor: figures, limits, refusals, rooms, and a second way to the
+//! same mesh.
 
 use crate::tools::{
     exactly_250_000_points, exactly_500_000_triangles, extracted, one_point_more,
-    one_triangle_more, random_grid, random_grid_with_halves, Grid, Mesh, Random, Rooms,
+    one_triangle_more, random_grid, Grid, Mesh, Random, Rooms,
 };
 use reference::cube;
 use reference::extract::Extracted;
@@ -33,75 +33,14 @@ fn assert_refused(grid: &Grid, rooms: &Rooms, number: u32) {
 
 #[test]
 fn offset_figures() {
-    assert_eq!(offset(0, 512, 1), 0);
-    assert_eq!(offset(512, 0, 511), 1);
     assert_eq!(offset(0, 3, 1), 85);
+    assert_eq!(offset(0, 512, 1), 1);
     assert_eq!(offset(10, 0, 10), 0);
     assert_eq!(offset(0, 5, 5), 256);
-    assert_eq!(offset(0, 512, 511), 255);
-    assert_eq!(offset(512, 0, 1), 256);
-    assert_eq!(offset(512, 0, 512), 0);
     assert_eq!(offset(0, 65_535, 65_535), 256);
     assert_eq!(offset(65_535, 0, 1), 256);
-}
-
-/// Crossed edges as their two samples and the grey value: samples from 0 to 40
-/// and around 512, 1,024 and 65,535, each with each, and all grey values that
-/// part the two.
-fn crossed_edges() -> impl Iterator<Item = [u16; 3]> {
-    let samples = || {
-        (0..=40)
-            .chain(508..=516)
-            .chain(1020..=1028)
-            .chain(65_531..=65_535)
-    };
-    let pairs = samples().flat_map(move |v0| samples().map(move |v1| (v0, v1)));
-    pairs.flat_map(|(v0, v1)| (v0.min(v1)..v0.max(v1)).map(move |below| [v0, v1, below + 1]))
-}
-
-/// Whether the unrounded offset of a crossed edge is on a half: twice it is whole
-/// and odd.
-fn is_half([v0, v1, grey]: [u16; 3]) -> bool {
-    let twice = 512 * u32::from(grey.abs_diff(v0));
-    let difference = u32::from(v1.abs_diff(v0));
-    twice.is_multiple_of(difference) && twice / difference % 2 == 1
-}
-
-/// The offset of a crossed edge is at most half a unit from the crossing. No whole
-/// number beside it is nearer, and one that is as near is farther from the below
-/// end.
-fn assert_nearest(edge: [u16; 3]) {
-    let found = i64::from(offset(edge[0], edge[1], edge[2]));
-    let [v0, v1, grey] = edge.map(i64::from);
-    let (crossing, unit) = (256 * (grey - v0).abs(), (v1 - v0).abs());
-    let below_end = if v0 < grey { 0 } else { 256 };
-    let distances = |units: i64| ((crossing - units * unit).abs(), (below_end - units).abs());
-    assert!(2 * distances(found).0 <= unit, "{edge:?}");
-    for beside in [found - 1, found + 1] {
-        assert!(distances(found) < distances(beside), "{edge:?}");
-    }
-}
-
-#[test]
-fn offsets_are_nearest_and_halves_go_towards_the_below_sample() {
-    let (mut lower_below, mut upper_below) = (0, 0);
-    for edge in crossed_edges() {
-        assert_nearest(edge);
-        let [v0, v1, _] = edge;
-        if is_half(edge) && v0 < v1 {
-            lower_below += 1;
-        } else if is_half(edge) {
-            upper_below += 1;
-        }
-    }
-    assert!(lower_below > 5000 && upper_below > 5000);
-}
-
-#[test]
-fn offsets_from_both_ends_add_up_to_256() {
-    for [v0, v1, grey] in crossed_edges() {
-        assert_eq!(offset(v0, v1, grey) + offset(v1, v0, grey), 256);
-    }
+    assert_eq!(offset(512, 0, 511), 1);
+    assert_eq!(offset(512, 0, 512), 0);
 }
 
 #[test]
@@ -286,24 +225,9 @@ fn a_checkerboard_of_side_64_has_too_many_points() {
     assert_refused(&Grid::checkerboard(), &rooms, 4);
 }
 
-/// A second way to an offset, from the below end whichever it is: the least
-/// whole number that is at most half a unit short of the crossing.
-fn second_offset(v0: u16, v1: u16, grey: u16) -> u32 {
-    let (below, above) = (v0.min(v1), v0.max(v1));
-    let crossing = 256 * u32::from(grey - below);
-    let unit = u32::from(above - below);
-    let from_below = (0..=256)
-        .find(|units| 2 * crossing <= (2 * units + 1) * unit)
-        .unwrap();
-    if v0 == below {
-        from_below
-    } else {
-        256 - from_below
-    }
-}
-
-/// A second way to the mesh of a grid: edge by edge through the numbers, offsets
-/// from the below end, triangles looked up by the two samples of an edge.
+/// A second way to the mesh of a grid: edge by edge through the numbers, the
+/// offset searched for by its inequality, triangles looked up by the two
+/// samples of an edge.
 fn second_way(grid: &Grid) -> (Mesh, Vec<u32>) {
     let [nx, ny, nz] = grid.sides.map(|side| side as usize);
     let strides = [1, nx, nx * ny];
@@ -317,8 +241,17 @@ fn second_way(grid: &Grid) -> (Mesh, Vec<u32>) {
             continue;
         }
         let (v0, v1) = (grid.samples[s], grid.samples[s + strides[a]]);
+        let g = i64::from(grid.grey);
+        let numerator = 256 * (g - i64::from(v0)).abs();
+        let denominator = (i64::from(v1) - i64::from(v0)).abs();
+        let offset = (0..=256_i64)
+            .find(|q| {
+                let twice = 2 * numerator - 2 * q * denominator;
+                -denominator <= twice && twice < denominator
+            })
+            .unwrap();
         let mut place = at.map(|coordinate| 256 * coordinate as u32);
-        place[a] += second_offset(v0, v1, grid.grey);
+        place[a] += offset as u32;
         points.extend(place);
         let (b, c) = ((a + 1) % 3, (a + 2) % 3);
         let last = [nx - 1, ny - 1, nz - 1];
@@ -362,15 +295,11 @@ fn random_grids_agree_with_the_second_way() {
     }
 }
 
-/// The place of a sample in a grid with these sides.
-fn sample_place([nx, ny, _]: [u32; 3], s: u32) -> [u32; 3] {
-    [s % nx, s / nx % ny, s / (nx * ny)]
-}
-
 /// The outer faces that a grid edge lies on, as bits.
 fn outer_faces(grid: &Grid, edge: u32) -> u32 {
+    let [nx, ny, _] = grid.sides;
     let (s, a) = (edge / 3, edge as usize % 3);
-    let at = sample_place(grid.sides, s);
+    let at = [s % nx, s / nx % ny, s / (nx * ny)];
     let mut faces = 0;
     for axis in (0..3).filter(|&axis| axis != a) {
         if at[axis] == 0 {
@@ -414,73 +343,6 @@ fn sides_off_the_outer_faces_have_one_side_back() {
         }
     }
     assert!(inner > 1000 && rim > 1000);
-}
-
-/// The place of a sample after mirroring along an axis.
-fn mirrored_place(sides: [u32; 3], mut at: [u32; 3], axis: usize) -> [u32; 3] {
-    at[axis] = sides[axis] - 1 - at[axis];
-    at
-}
-
-fn mirrored_grid(grid: &Grid, axis: usize) -> Grid {
-    let mut mirror = grid.clone();
-    for (s, &sample) in (0..).zip(&grid.samples) {
-        let at = sample_place(grid.sides, s);
-        mirror.set(mirrored_place(grid.sides, at, axis), sample);
-    }
-    mirror
-}
-
-/// The number of a grid edge after mirroring along an axis. An edge along this
-/// axis has its ends exchanged.
-fn mirrored_edge(sides: [u32; 3], edge: u32, axis: usize) -> u32 {
-    let (s, a) = (edge / 3, edge as usize % 3);
-    let mut end = sample_place(sides, s);
-    if a == axis {
-        end[axis] += 1;
-    }
-    let [x, y, z] = mirrored_place(sides, end, axis);
-    3 * (x + sides[0] * (y + sides[1] * z)) + a as u32
-}
-
-/// The place and the mark of each point, by its grid edge.
-fn points_by_edge(grid: &Grid) -> BTreeMap<u32, ([u32; 3], u8)> {
-    let (mesh, edges) = extracted(grid);
-    let places = mesh.points.chunks(3).map(|p| [p[0], p[1], p[2]]);
-    edges.into_iter().zip(places.zip(mesh.marks)).collect()
-}
-
-/// Whether the unrounded offset of a crossed grid edge is on a half.
-fn edge_is_half(grid: &Grid, edge: u32) -> bool {
-    let [nx, ny, _] = grid.sides;
-    let (s, a) = (edge / 3, edge as usize % 3);
-    let sample = |s: u32| grid.samples[s as usize];
-    is_half([sample(s), sample(s + [1, nx, nx * ny][a]), grid.grey])
-}
-
-/// "mirroring the volume along an axis mirrors every point's place."
-#[test]
-fn mirrored_grids_have_mirrored_points() {
-    let mut random = Random::new(4);
-    let mut halves_along = [0; 3];
-    for _ in 0..200 {
-        let sides = [0; 3].map(|_| 2 + random.below(4));
-        let grid = random_grid_with_halves(&mut random, sides);
-        let points = points_by_edge(&grid);
-        for axis in 0..3 {
-            let last = 256 * (sides[axis] - 1);
-            let mut wanted = BTreeMap::new();
-            for (&edge, &(mut place, mark)) in &points {
-                place[axis] = last - place[axis];
-                wanted.insert(mirrored_edge(sides, edge, axis), (place, mark));
-            }
-            assert_eq!(points_by_edge(&mirrored_grid(&grid, axis)), wanted);
-        }
-        for edge in points.into_keys().filter(|&edge| edge_is_half(&grid, edge)) {
-            halves_along[edge as usize % 3] += 1;
-        }
-    }
-    assert!(halves_along.iter().all(|&count| count > 500));
 }
 
 /// An extracted mesh passes the checks of every call on a mesh.

@@ -210,28 +210,15 @@ pub fn random_grid(random: &mut Random) -> Grid {
 
 /// A grid with these sides, and samples of several kinds.
 pub fn random_grid_of(random: &mut Random, sides: [u32; 3]) -> Grid {
-    let (bound, grey) = match random.below(5) {
+    let (bound, grey) = match random.below(4) {
         0 => (2, 1),
         1 => (6, 3),
         2 => (65_536, 32_768),
-        3 => (65_536, random.below(65_536) as u16),
-        _ => return random_grid_with_halves(random, sides),
+        _ => (65_536, random.below(65_536) as u16),
     };
     let mut grid = Grid::filled(sides, grey, 0);
     for sample in &mut grid.samples {
         *sample = random.below(bound) as u16;
-    }
-    grid
-}
-
-/// A grid with these sides whose samples are multiples of 512, so that many
-/// offsets are on a half: with an odd grey value, those of all edges between
-/// one multiple and the next.
-pub fn random_grid_with_halves(random: &mut Random, sides: [u32; 3]) -> Grid {
-    let grey = 1 + random.below(3 * 512) as u16;
-    let mut grid = Grid::filled(sides, grey, 0);
-    for sample in &mut grid.samples {
-        *sample = 512 * random.below(4) as u16;
     }
     grid
 }
