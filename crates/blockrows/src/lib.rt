@@ -1,4 +1,7 @@
 // One row of blocks along x at a time: their least and greatest numbers worked out in local rows, so that several are taken at once, then compared with a list or stored in it. A row is written as a slice: the proof then knows its length.
+
+#![tactic(auto)]
+
 ghost use Rattle.std.specs.Prelude.{◌≡◌, not, ◌+◌, ◌*◌, ◌≤◌, min, max, length, replicate};
 ghost use Rattle.std.proofs.lemmas.List.Edits.{sets};
 ghost use Rattle.laws.specs.Room.{laid};

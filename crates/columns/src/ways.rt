@@ -5,7 +5,7 @@ ghost use Rattle.columns.specs.Columns.{way_of, start_by, put_by};
 // The largest number of 32 bits.
 const LARGEST: u32 = 4_294_967_295;
 
-#[derive(Drop)]
+#[derive(Clone, Copy)]
 pub enum Way {
     Least,
     Greatest,

@@ -1,4 +1,7 @@
 // One cube (document 01, "One cube"): the triangles of each of the 256 cases.
+
+#![tactic(auto)]
+
 ghost use Rattle.std.specs.Prelude.{◌≡◌, ◌+◌, ◌*◌, ◌<◌};
 ghost use Rattle.laws.specs.Threes.{three_at};
 ghost use Rattle.cube.specs.Promise.{Counted, Answered, Rows, Counts};

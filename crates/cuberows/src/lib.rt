@@ -1,4 +1,7 @@
 // Cubes by the words of the four rows of samples around them, and the triangles of a grid, counted cube by cube.
+
+#![tactic(auto)]
+
 ghost use Rattle.std.specs.Prelude.{◌≡◌, ◌+◌, ◌*◌, ◌≤◌, ◌<◌, length};
 ghost use Rattle.laws.specs.Bits.{word_bits};
 ghost use Rattle.cube.specs.Promise.{Counts};
@@ -20,7 +23,7 @@ const FOUR_CORNERS: u64 = 16;
 const FOUND_ROWS: usize = MOST_SIDE as usize;
 
 // The words of the four rows of samples around a stretch of cubes: of the cubes' own y and z, and one on along y, along z and along both.
-#[derive(Drop)]
+#[derive(Clone, Copy)]
 pub struct Corners {
     pub m00: u64,
     pub m10: u64,

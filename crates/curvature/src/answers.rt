@@ -9,7 +9,7 @@ use measures::vectors;
 use measures::vectors::Vector;
 
 // One of three: open with its area, flat, or bent with its area and a vector.
-#[derive(Drop)]
+#[derive(Clone, Copy)]
 pub enum Answer {
     Open(f64),
     Flat,
@@ -17,14 +17,14 @@ pub enum Answer {
 }
 
 // One point's answer read back, or the refusal's number.
-#[derive(Drop)]
+#[derive(Clone, Copy)]
 pub enum Reading {
     Answered(Answer),
     Refused(u32),
 }
 
 // An answer as plain numbers: its kind, 0 open, 1 flat, 2 bent, its area and its vector; what a kind does not have is +0.0.
-#[derive(Drop)]
+#[derive(Clone, Copy)]
 pub struct Plain {
     pub kind: u32,
     pub area: f64,

@@ -1,4 +1,7 @@
 // Areas and mean curvature of a mesh, and one point's answer read back.
+
+#![tactic(auto)]
+
 ghost use Rattle.curvature.specs.Promise.{left, Curves, ReadsBack};
 
 mod answers;

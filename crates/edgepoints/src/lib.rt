@@ -1,4 +1,7 @@
 // The point on a grid edge: its place, grid edge and mark, written to the front of their rooms.
+
+#![tactic(auto)]
+
 ghost use Rattle.std.specs.Prelude.{◌≡◌, [], ◌∷◌, true, ◌&&◌, ◌+◌, ◌*◌, ◌^◌, ◌<◌, ◌≤◌, eqb, length, get_or};
 ghost use Rattle.laws.specs.Range.{one_if};
 ghost use Rattle.grid.specs.Limits.{most_side};
@@ -11,7 +14,7 @@ use grid::limits::UNIT;
 use rows::Sides;
 
 // A sample by its number in the grid, its place among the samples lent, and its coordinates.
-#[derive(Drop)]
+#[derive(Clone, Copy)]
 pub struct Sample {
     pub s: usize,
     pub place: usize,
@@ -21,7 +24,7 @@ pub struct Sample {
 }
 
 // A point: its place, its grid edge and its mark.
-#[derive(Drop)]
+#[derive(Clone, Copy)]
 pub struct Point {
     pub x: u32,
     pub y: u32,

@@ -1,4 +1,7 @@
 // The extractor: a grid of samples and one grey value in, a mesh with numbered points out.
+
+#![tactic(auto)]
+
 ghost use Rattle.std.specs.Prelude.{◌≡◌, min, ltb, length, replicate};
 ghost use Rattle.grid.specs.Grid.{axes, sample_count, edge_count, is_above_grey};
 ghost use Rattle.grid.specs.Mode.{cubes};
@@ -10,7 +13,7 @@ use grid::limits::{MOST_POINTS, MOST_TRIANGLES};
 use masks::MOST_WORDS;
 
 // Number 0 and the two counts if granted, else the refusal's number and zero counts.
-#[derive(Drop)]
+#[derive(Clone, Copy)]
 pub struct Extracted {
     pub number: u32,
     pub points: u32,

@@ -1,4 +1,7 @@
 // A granted mesh goes from the text and the work room into the result rooms (document 02 (iii)).
+
+#![tactic(auto)]
+
 ghost use Rattle.std.specs.Prelude.{◌≡◌, ◌≤◌, length};
 ghost use Rattle.laws.specs.Room.{laid};
 ghost use Rattle.grid.specs.Limits.{most_points};

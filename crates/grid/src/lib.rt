@@ -1,4 +1,7 @@
 // Sizes and limits, the test of the sides, and the leaves of a point's place and mark.
+
+#![tactic(auto)]
+
 ghost use Rattle.std.specs.Prelude.{◌≡◌, ◌<◌};
 ghost use Rattle.grid.specs.Sides.{side_fits, sides_fit};
 ghost use Rattle.grid.specs.Grid.{is_end};

@@ -1,4 +1,7 @@
 // The text of a small grid: line 1, its checks, and the rows of samples.
+
+#![tactic(auto)]
+
 ghost use Rattle.std.specs.Prelude.{◌≡◌, false, ◌*◌, ◌≤◌, length, take, drop};
 ghost use Rattle.laws.specs.Room.{laid};
 ghost use Rattle.grid.specs.Limits.{most_small, most_number};
@@ -11,7 +14,7 @@ use grid::limits::{MOST_ROUNDS, MOST_SMALL, MOST_WEIGHT};
 use reading::{read_row, read_rows};
 
 // The numbers of line 1.
-#[derive(Drop)]
+#[derive(Clone, Copy)]
 pub struct Head {
     pub nx: u32,
     pub ny: u32,
@@ -22,7 +25,7 @@ pub struct Head {
 }
 
 // Line 1 was read, up to the place behind it; or not ok.
-#[derive(Drop)]
+#[derive(Clone, Copy)]
 struct Headed {
     ok: bool,
     next: usize,
@@ -30,7 +33,7 @@ struct Headed {
 }
 
 // Number 0 and line 1's numbers if granted, else the refusal's number and line, and zeros.
-#[derive(Drop)]
+#[derive(Clone, Copy)]
 pub struct Parsed {
     pub number: u32,
     pub line: u32,

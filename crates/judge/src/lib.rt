@@ -1,4 +1,7 @@
 // What the reader decides before it fills a result room: the refusals in their order, or where the mesh is found (document 02 (iii)).
+
+#![tactic(auto)]
+
 ghost use Rattle.std.specs.Prelude.{◌≡◌, ◌^◌, ◌<◌, ◌≤◌, length, drop, replicate};
 ghost use Rattle.grid.specs.Limits.{most_points, most_triangles};
 ghost use Rattle.columns.specs.Room.{work_length, points_in, marks_in, triangles_in};
@@ -19,7 +22,7 @@ use sameshells::same_shells;
 const SHELLS_DIFFER: u32 = 16;
 
 // Number 0, the counts, and where the lines of the points and of the shells begin, if granted; else the refusal's number and line, and zeros.
-#[derive(Drop)]
+#[derive(Clone, Copy)]
 pub struct Judged {
     pub number: u32,
     pub line: u64,

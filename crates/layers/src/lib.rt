@@ -1,4 +1,7 @@
 // Layers as they come off the scanner (document 02, request (v)): the extractor in three calls, an opening, one call a layer, and a closing, with two layers held and no more.
+
+#![tactic(auto)]
+
 ghost use Rattle.std.specs.Prelude.{◌≡◌, [], ◌++◌, ◌+◌, ◌*◌, ◌/◌, ◌≤◌, ◌<◌, min, length};
 ghost use Rattle.grid.specs.Limits.{most_number, most_side};
 ghost use Rattle.grid.specs.Work.{SidesFit};
@@ -25,7 +28,7 @@ const CLOSED_EARLY: u32 = 18;
 const PAIR_WORDS: usize = 2 * (MOST_WORDS / MOST_SIDE as usize);
 
 // Number 0 and the two counts if granted, else the refusal's number and zero counts.
-#[derive(Drop)]
+#[derive(Clone, Copy)]
 pub struct Answered {
     pub number: u32,
     pub points: u32,
@@ -44,7 +47,7 @@ fn nothing(number: u32) -> Answered
 }
 
 // The same of a closing, which hands out no triangles.
-#[derive(Drop)]
+#[derive(Clone, Copy)]
 pub struct Closed {
     pub number: u32,
     pub points: u32,

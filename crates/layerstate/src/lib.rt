@@ -1,4 +1,7 @@
 // The state of a run of layers in its room: read, and written by a granted call.
+
+#![tactic(auto)]
+
 ghost use Rattle.std.specs.Prelude.{◌≡◌, not, ◌&&◌, ◌||◌, ◌+◌, ◌*◌, ◌≤◌, ◌<◌, ◌^◌, eqb, leb, ltb, length, get_or};
 ghost use Rattle.std.proofs.lemmas.List.Edits.{sets};
 ghost use Rattle.grid.specs.Limits.{most_number};
@@ -27,7 +30,7 @@ const MOST_LAYER: usize = (MOST_SIDE * MOST_SIDE) as usize;
 pub const STATE_LENGTH: usize = KEPT_AT + MOST_LAYER;
 
 // The numbers of a state before its kept layer.
-#[derive(Drop)]
+#[derive(Clone, Copy)]
 pub struct Head {
     pub nx: u32,
     pub ny: u32,

@@ -1,4 +1,7 @@
 // Lines of numbers as text (document 01, "The program for small grids").
+
+#![tactic(auto)]
+
 ghost use Rattle.std.specs.Prelude.{◌≡◌};
 ghost use Rattle.lines.specs.Line.{end_of};
 

@@ -12,7 +12,7 @@ use laws::signed;
 use mesh::Place;
 
 // d at each corner.
-#[derive(Drop)]
+#[derive(Clone, Copy)]
 pub struct Dots {
     pub one: i64,
     pub two: i64,
@@ -20,7 +20,7 @@ pub struct Dots {
 }
 
 // A number for each corner.
-#[derive(Drop)]
+#[derive(Clone, Copy)]
 pub struct Corners {
     pub one: f64,
     pub two: f64,

@@ -9,7 +9,7 @@ use laws::signed;
 use mesh::Place;
 
 // What leads from one place to another.
-#[derive(Drop)]
+#[derive(Clone, Copy)]
 pub struct Side {
     pub x: i64,
     pub y: i64,

@@ -7,7 +7,7 @@ ghost use Rattle.measures.specs.Vectors.{no_vector, of_side, plus as plusOf, tim
 use crate::sides::Side;
 use crate::whole;
 
-#[derive(Drop)]
+#[derive(Clone, Copy)]
 pub struct Vector {
     pub x: f64,
     pub y: f64,

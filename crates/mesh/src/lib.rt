@@ -1,4 +1,7 @@
 // What a caller's mesh must pass, for every call on a mesh, and where its points stand.
+
+#![tactic(auto)]
+
 ghost use Rattle.std.specs.Prelude.{◌≡◌, ◌+◌, ◌*◌, ◌<◌, length};
 ghost use Rattle.laws.specs.Mesh.{triangle};
 ghost use Rattle.mesh.specs.Check.{lengths_fit, names_three, triangles_fit, all_within};
@@ -8,7 +11,7 @@ ghost use Rattle.mesh.specs.Promise.{Checked};
 use grid::limits::{MOST_COORDINATE, MOST_POINTS, MOST_TRIANGLES};
 
 // Where a point stands.
-#[derive(Drop)]
+#[derive(Clone, Copy)]
 pub struct Place {
     pub x: u32,
     pub y: u32,

@@ -1,4 +1,7 @@
 // The pass over the lines of a mesh's text behind line 1: the form of every line, and points, marks and triangles into the work room (document 02 (iii)).
+
+#![tactic(auto)]
+
 ghost use Rattle.std.specs.Prelude.{◌≡◌, false, ◌+◌, ◌*◌, ◌^◌, ◌≤◌, ◌<◌, length, drop};
 ghost use Rattle.grid.specs.Limits.{most_points, most_triangles};
 ghost use Rattle.columns.specs.Room.{work_length};
@@ -7,7 +10,7 @@ ghost use Rattle.meshform.specs.Form.{counts_for, TakesPoint, TakesTriangle, poi
 use meshrows::{read_point, read_shell, read_triangle};
 
 // A line was taken: the place behind it, and the least edge number that may follow; or not ok.
-#[derive(Drop)]
+#[derive(Clone, Copy)]
 struct Taken {
     ok: bool,
     next: usize,
@@ -15,7 +18,7 @@ struct Taken {
 }
 
 // The first line that is malformed; or 0, and the place behind the lines.
-#[derive(Drop)]
+#[derive(Clone, Copy)]
 pub struct Passed {
     pub line: u64,
     pub next: usize,

@@ -1,1 +1,3 @@
 // What the reader of a mesh's text promises, and that reading and writing undo each other: definitions and theorems, and no code.
+
+#![tactic(auto)]

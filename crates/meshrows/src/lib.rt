@@ -1,4 +1,7 @@
 // One line of a mesh's text, read at a place of the text (document 02 (iii)). Each reader answers the line's numbers and the place behind it, or not ok.
+
+#![tactic(auto)]
+
 ghost use Rattle.std.specs.Prelude.{◌≡◌, false, leb, drop};
 ghost use Rattle.reading.specs.Reading.{most_word, read_lettered, read_row};
 ghost use Rattle.records.specs.Grown.{none};
@@ -10,7 +13,7 @@ use records::Shell;
 use records::volume::MOST_VOLUME;
 
 // Line 1.
-#[derive(Drop)]
+#[derive(Clone, Copy)]
 pub struct CountsLine {
     pub ok: bool,
     pub next: usize,
@@ -20,7 +23,7 @@ pub struct CountsLine {
 }
 
 // A point's line: grid edge, x, y, z, mark.
-#[derive(Drop)]
+#[derive(Clone, Copy)]
 pub struct PointLine {
     pub ok: bool,
     pub next: usize,
@@ -28,7 +31,7 @@ pub struct PointLine {
 }
 
 // A triangle's line: three points.
-#[derive(Drop)]
+#[derive(Clone, Copy)]
 pub struct TriangleLine {
     pub ok: bool,
     pub next: usize,
@@ -36,7 +39,7 @@ pub struct TriangleLine {
 }
 
 // A shell's line.
-#[derive(Drop)]
+#[derive(Clone, Copy)]
 pub struct ShellLine {
     pub ok: bool,
     pub next: usize,

@@ -2,6 +2,9 @@
 //
 // The room's parts: the entries, two for each corner of each triangle (6T in all); from `at` on the starts, V + 1 of them; then a stamp for each point.
 // While the room is filled a point's entries are its bucket, and its start is where the bucket's next entry goes.
+
+#![tactic(auto)]
+
 ghost use Rattle.std.specs.Prelude.{◌≡◌, ◌+◌, ◌*◌, ◌-◌, ◌<◌, ◌≤◌, length, get_or};
 ghost use Rattle.laws.specs.Range.{sum_to};
 ghost use Rattle.grid.specs.Limits.{most_triangles};

@@ -1,4 +1,7 @@
 // The points of a grid, numbered layer by layer from the words of its rows.
+
+#![tactic(auto)]
+
 ghost use Rattle.std.specs.Prelude.{◌≡◌, ◌*◌, ◌≤◌, length};
 ghost use Rattle.grid.specs.Grid.{axes, edge_count};
 ghost use Rattle.grid.specs.Point.{point_edges};

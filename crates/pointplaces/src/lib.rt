@@ -1,4 +1,7 @@
 // The points of a grid, placed layer by layer from the words of its rows.
+
+#![tactic(auto)]
+
 ghost use Rattle.std.specs.Prelude.{◌≡◌, ◌*◌, ◌≤◌, length};
 ghost use mathlib.Core.List.{map, flat_map};
 ghost use Rattle.laws.specs.Room.{laid};

@@ -1,4 +1,7 @@
 // A small mesh, printed: smoothed, its shells listed, and written with their records. All rooms are local.
+
+#![tactic(auto)]
+
 ghost use Rattle.std.specs.Prelude.{◌≤◌, length, take};
 ghost use Rattle.grid.specs.Limits.{most_rounds, most_weight};
 ghost use Rattle.printing.specs.Prints.{after_rounds, Prints};
@@ -11,8 +14,8 @@ pub mod zeros;
 use writing::Written;
 use zeros::MOST_SMALL_POINTS;
 
-// Lists the shells of a mesh into an array of records, and writes its text with them. A function that holds records in a list is proved by hand: this is the only
-// one here, and whatever calls it meets plain numbers.
+// Lists the shells of a mesh into an array of records, and writes its text with them. This is the only function here that holds records in a list: whatever calls
+// it meets plain numbers.
 fn write_records(
     points: &[u32],
     edges: &[u32],

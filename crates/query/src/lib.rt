@@ -1,4 +1,7 @@
 // Trying many grey values on one volume: the summary of the samples built, and the mesh at one grey value by it.
+
+#![tactic(auto)]
+
 ghost use Rattle.std.specs.Prelude.{◌≡◌, true, length};
 ghost use Rattle.grid.specs.Grid.{axes, sample_count, edge_count};
 ghost use Rattle.grid.specs.Work.{size, SidesFit};
@@ -13,7 +16,7 @@ use summarylist::SUMMARY;
 const NO_SUMMARY: u32 = 19;
 
 // Number 0 and the three counts if granted, else the refusal's number and zero counts.
-#[derive(Drop)]
+#[derive(Clone, Copy)]
 pub struct Queried {
     pub number: u32,
     pub points: u32,

@@ -1,4 +1,7 @@
 // Line 1 of a mesh's text, and the mesh read back from it into lent rooms (document 02 (iii)).
+
+#![tactic(auto)]
+
 ghost use Rattle.std.specs.Prelude.{◌≡◌};
 ghost use Rattle.meshread.specs.Promise.{Reads};
 ghost use Rattle.reader.specs.Counts.{counts_answered};
@@ -11,7 +14,7 @@ use readrecords::fill_records;
 use records::Shell;
 
 // Number 0 and the numbers of line 1; or number 15 and zeros.
-#[derive(Drop)]
+#[derive(Clone, Copy)]
 pub struct Counts {
     pub number: u32,
     pub points: u32,
@@ -41,7 +44,7 @@ pub fn read_counts(input: &[u8]) -> Counts
 }
 
 // Number 0 and the counts if granted; else the refusal's number and line, and zeros.
-#[derive(Drop)]
+#[derive(Clone, Copy)]
 pub struct Read {
     pub number: u32,
     pub line: u64,

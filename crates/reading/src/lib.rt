@@ -1,4 +1,7 @@
 // Numbers and rows of numbers read from a place of a text on.
+
+#![tactic(auto)]
+
 ghost use Rattle.std.specs.Prelude.{◌+◌, ◌*◌, ◌^◌, ◌≤◌, ◌<◌, ◌≡◌, false, pos, length, take, drop};
 ghost use Rattle.lines.specs.Decimal.{is_digit};
 ghost use Rattle.lines.specs.Line.{most_fields};
@@ -14,7 +17,7 @@ use lines::end_of;
 pub const MOST_WORD: u64 = 4_294_967_295;
 
 // The number that was read, and the place behind it; or not ok.
-#[derive(Drop)]
+#[derive(Clone, Copy)]
 pub struct Field {
     pub ok: bool,
     pub value: u64,
@@ -22,7 +25,7 @@ pub struct Field {
 }
 
 // The signed number that was read, and the place behind it; or not ok.
-#[derive(Drop)]
+#[derive(Clone, Copy)]
 pub struct Signed {
     pub ok: bool,
     pub value: i64,
@@ -30,7 +33,7 @@ pub struct Signed {
 }
 
 // A line, or a part of one, was read, up to the place behind it; or not ok.
-#[derive(Drop)]
+#[derive(Clone, Copy)]
 pub struct Line {
     pub ok: bool,
     pub next: usize,

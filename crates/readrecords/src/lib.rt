@@ -1,4 +1,7 @@
 // The records that the `S` lines of a text say, into a lent list of records (document 02 (iii)).
+
+#![tactic(auto)]
+
 ghost use Rattle.std.specs.Prelude.{◌≡◌, ◌<◌, ◌≤◌, length};
 ghost use Rattle.laws.specs.Room.{laid};
 ghost use Rattle.sameshells.specs.Same.{shells_at, LinesThere};

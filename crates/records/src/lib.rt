@@ -1,4 +1,7 @@
 // A shell's record by value: one point more, one triangle more.
+
+#![tactic(auto)]
+
 ghost use Rattle.std.specs.Prelude.{◌≡◌, true, cond, eqb, ◌+◌, ◌*◌, ◌<◌, ◌≤◌, min, max, length, get_or};
 ghost use Rattle.grid.specs.Limits.{most_points};
 ghost use Rattle.mesh.specs.Mesh.{triangle_count, triangle_at};
@@ -13,7 +16,7 @@ use sets::wide;
 pub mod volume;
 
 #[repr(C)]
-#[derive(Drop)]
+#[derive(Clone, Copy)]
 pub struct Shell {
     pub low: u32,
     pub points: u32,

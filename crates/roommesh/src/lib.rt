@@ -1,4 +1,7 @@
 // A mesh in the reader's work room: its checks 7 to 9, and the shell numbers of its points.
+
+#![tactic(auto)]
+
 ghost use Rattle.std.specs.Prelude.{◌≡◌, ◌+◌, ◌*◌, ◌≤◌, length};
 ghost use Rattle.grid.specs.Limits.{most_points, most_triangles};
 ghost use Rattle.mesh.specs.Check.{mesh_number};

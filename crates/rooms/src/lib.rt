@@ -1,4 +1,7 @@
 // What calls do with lent rooms.
+
+#![tactic(auto)]
+
 ghost use Rattle.std.specs.Prelude.{◌≡◌, ◌+◌, ◌≤◌, min, length, replicate};
 ghost use Rattle.laws.specs.Part.{part_of};
 

@@ -1,4 +1,7 @@
 // Points in sets in a part of a room, where the triangles stand in another part of it.
+
+#![tactic(auto)]
+
 ghost use Rattle.std.specs.Prelude.{◌≡◌, ◌≤◌, length};
 ghost use Rattle.laws.specs.Values.{list_to};
 ghost use Rattle.grid.specs.Limits.{most_points};

@@ -1,4 +1,7 @@
 // The scaled whole root of a whole number, found with additions, comparisons and shifts only, so that it can be followed on paper.
+
+#![tactic(auto)]
+
 ghost use Rattle.std.specs.Prelude.{◌^◌, ◌<◌, ◌≡◌};
 ghost use Rattle.grid.specs.Limits.{window_to};
 ghost use Rattle.root.specs.Root.{scaled};
@@ -13,14 +16,14 @@ const WINDOW_START: u64 = 1 << WINDOW_FROM;
 const FIRST_STEP: u32 = 16;
 
 // s and n·4^s.
-#[derive(Drop)]
+#[derive(Clone, Copy)]
 struct Scaling {
     scale: u32,
     number: u64,
 }
 
 // s and r: the scaling, and the whole root of the scaled number.
-#[derive(Drop)]
+#[derive(Clone, Copy)]
 pub struct Scaled {
     pub scale: u32,
     pub root: u64,

@@ -1,4 +1,7 @@
 // A round of smoothing, over the lists of neighbours in the work room.
+
+#![tactic(auto)]
+
 ghost use Rattle.std.specs.Prelude.{◌≡◌, not, ◌&&◌, [], ◌∷◌, ◌+◌, ◌*◌, ◌-◌, ◌<◌, ◌≤◌, eqb, leb, length};
 ghost use Rattle.std.proofs.lemmas.List.Edits.{sets};
 ghost use Rattle.grid.specs.Limits.{most_weight, most_points, most_coordinate};
@@ -8,7 +11,7 @@ ghost use Rattle.rounds.specs.Steps.{SmallPlaces, NamesTo, Held, SameTo, held_su
 use grid::limits::MOST_WEIGHT;
 use rooms::copy;
 
-// ((256 - w)·d·p + typeof.w.S) / (256·d) to the nearest, halves up: where coordinate p of a point goes that has d neighbours whose coordinates sum up to S.
+// ((256 - w)·d·p + w·S) / (256·d) to the nearest, halves up: where coordinate p of a point goes that has d neighbours whose coordinates sum up to S.
 fn moved(weight: u32, d: usize, p: u32, sum: u64) -> u32
     requires weight_le_most_weight { weight ≤ most_weight }
     requires d_nonzero { (0 < d) × (d ≤ most_points) }
@@ -22,7 +25,7 @@ fn moved(weight: u32, d: usize, p: u32, sum: u64) -> u32
 }
 
 // What the coordinates of a point's neighbours sum up to.
-#[derive(Drop)]
+#[derive(Clone, Copy)]
 struct Sums {
     x: u64,
     y: u64,

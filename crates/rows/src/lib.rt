@@ -1,4 +1,7 @@
 // The rows of a grid in words, word after word, and which of the edges that leave a sample are crossed.
+
+#![tactic(auto)]
+
 ghost use Rattle.std.specs.Prelude.{◌≡◌, true, cond, ◌<◌, ◌≤◌, length, get_or};
 ghost use Rattle.laws.specs.Bits.{word_bits};
 ghost use Rattle.grid.specs.Work.{SidesFit};
@@ -11,7 +14,7 @@ use masks::{WORD_CUBES, WORD_SAMPLES};
 const ALL_CUBES: u64 = 0x7fff_ffff_ffff_ffff;
 
 // The sides of a grid, how many words a row has, the mask of the samples of a row's last word, and how many layers lie below the first whose words and samples are lent.
-#[derive(Drop)]
+#[derive(Clone, Copy)]
 pub struct Sides {
     pub nx: usize,
     pub ny: usize,
@@ -22,7 +25,7 @@ pub struct Sides {
 }
 
 // A stretch of a row, which is what one word has of it: how many samples the row has from its first on, its first sample's y and number in the grid, and its word's place among those lent.
-#[derive(Drop)]
+#[derive(Clone, Copy)]
 pub struct Stretch {
     pub left: usize,
     pub y: usize,
@@ -31,7 +34,7 @@ pub struct Stretch {
 }
 
 // For each axis a word with a bit set where the edge that leaves a sample of a stretch along the axis is crossed.
-#[derive(Drop)]
+#[derive(Clone, Copy)]
 pub struct Crossed {
     pub x: u64,
     pub y: u64,
@@ -39,7 +42,7 @@ pub struct Crossed {
 }
 
 // Which of the three edges that leave a sample are crossed.
-#[derive(Drop)]
+#[derive(Clone, Copy)]
 pub struct Cuts {
     pub x: bool,
     pub y: bool,

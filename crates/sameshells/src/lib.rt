@@ -1,4 +1,7 @@
 // Whether the S lines of a text are those of the mesh in the work room, field by field (document 02 (iii)).
+
+#![tactic(auto)]
+
 ghost use Rattle.std.specs.Prelude.{◌≡◌, ◌+◌, ◌≤◌, ◌<◌, length};
 ghost use Rattle.columns.specs.Room.{StandsIn, record_in};
 ghost use Rattle.sameshells.specs.Same.{shells_at, LinesThere, Decides, SameColumn, SameFields, ColumnLeft, WordsThere, SameVolumes, MeshLeft};

@@ -1,4 +1,7 @@
 // Points in sets. Each number of the room names its point's parent, never a higher point. The root of a set is its own parent, and so its lowest point.
+
+#![tactic(auto)]
+
 ghost use Rattle.std.specs.Prelude.{◌≡◌, true, ◌*◌, ◌<◌, ◌≤◌, length};
 ghost use Rattle.laws.specs.Range.{count_to};
 ghost use Rattle.laws.specs.Values.{list_to};

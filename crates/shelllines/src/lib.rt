@@ -1,4 +1,7 @@
 // The lines of a mesh's shells, measured and written. A line is the text of one record, by value; the two loops go through a lent list of records.
+
+#![tactic(auto)]
+
 ghost use Rattle.std.specs.Prelude.{◌≡◌, ◌+◌, ◌*◌, ◌≤◌, length, get_or};
 ghost use Rattle.std.proofs.lemmas.List.Edits.{sets};
 ghost use Rattle.grid.specs.Limits.{most_points};

@@ -1,10 +1,13 @@
 // The shell number of each point: points that triangle sides lead between have one number.
+
+#![tactic(auto)]
+
 ghost use Rattle.std.specs.Prelude.{◌≡◌, length, replicate};
 ghost use Rattle.shellnumbers.specs.Lists.{left, refusal, Lists};
 
 // Number 0 and the count of shells if granted, else the refusal's number and count 0.
 #[repr(C)]
-#[derive(Drop)]
+#[derive(Clone, Copy)]
 pub struct Listed {
     pub number: u32,
     pub shells: usize,

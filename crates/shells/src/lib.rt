@@ -1,4 +1,7 @@
 // Shells: points that triangle sides lead between, and a record of each shell, in a lent list of records.
+
+#![tactic(auto)]
+
 ghost use Rattle.std.specs.Prelude.{◌≡◌, ◌<◌, ◌≤◌, length, get_or, set};
 ghost use Rattle.mesh.specs.Mesh.{triangle_count, triangle_at};
 ghost use Rattle.mesh.specs.Place.{place_of};

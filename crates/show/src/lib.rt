@@ -1,4 +1,7 @@
 // One point shown out of either list, the raw or the smoothed.
+
+#![tactic(auto)]
+
 ghost use Rattle.show.specs.Promise.{Shown};
 
 // The three coordinates of one point as a part of one of the two lists: of the second, the smoothed, if so asked, else of

@@ -1,4 +1,7 @@
 // Smoothing.
+
+#![tactic(auto)]
+
 ghost use Rattle.std.specs.Prelude.{◌≡◌, ◌+◌, ◌*◌, ◌≤◌, length, replicate};
 ghost use Rattle.grid.specs.Limits.{most_rounds, most_weight};
 ghost use Rattle.mesh.specs.Mesh.{triangle_count, triangles_of};

@@ -1,4 +1,7 @@
 // The steps of a query: the blocks that are looked at, from the summary and the grey value alone. No function here is given samples.
+
+#![tactic(auto)]
+
 ghost use Rattle.std.specs.Prelude.{◌≡◌, ◌+◌, ◌-◌, ◌^◌, ◌<◌, length};
 ghost use Rattle.grid.specs.Limits.{halvings};
 ghost use Rattle.summary.specs.Blocks.{summary_length};
@@ -11,7 +14,7 @@ use grid::limits::{HALVINGS, MOST_ROWS, MOST_SIDE};
 pub const FOUND_WORDS: usize = MOST_ROWS;
 
 // Block (x, y, z) of its level, which begins at `start` and has so many blocks a side; it can be halved so many times.
-#[derive(Drop)]
+#[derive(Clone, Copy)]
 pub struct Block {
     pub halvings: u32,
     pub start: usize,
@@ -22,7 +25,7 @@ pub struct Block {
 }
 
 // How many steps were run so far, and what the last one says.
-#[derive(Drop)]
+#[derive(Clone, Copy)]
 pub struct Stepped {
     pub count: u32,
     pub found: bool,

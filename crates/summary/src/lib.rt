@@ -1,1 +1,3 @@
 // The summary.
+
+#![tactic(auto)]

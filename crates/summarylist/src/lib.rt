@@ -1,4 +1,7 @@
 // The summary of the samples, built in a lent room, and a lent list compared with it: level by level from the single cubes up, row by row.
+
+#![tactic(auto)]
+
 ghost use Rattle.std.specs.Prelude.{◌≡◌, ◌-◌, ◌^◌, ◌≤◌, ◌<◌, length};
 ghost use Rattle.grid.specs.Limits.{halvings, most_side};
 ghost use Rattle.grid.specs.Grid.{sample_count};

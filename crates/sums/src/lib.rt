@@ -1,4 +1,7 @@
 // The area sums and running vectors of all points, in the two result rooms.
+
+#![tactic(auto)]
+
 ghost use Rattle.std.specs.Prelude.{◌≡◌, true, ℕ, ◌*◌, ◌<◌, length, get_or};
 ghost use Rattle.std.specs.Float.{nan};
 ghost use Rattle.laws.specs.Mesh.{triangle};

@@ -1,4 +1,7 @@
 // The C functions that a viewer links, but for those on texts. Each is a thin call of the one below it.
+
+#![tactic(auto)]
+
 ghost use Rattle.cube.specs.Promise.{Counted, EdgeRead};
 ghost use Rattle.grid.specs.Mode.{cubes};
 ghost use Rattle.extract.specs.Promise.{rooms, left, Extracts};

@@ -1,4 +1,7 @@
 // The C functions of a run of layers. Each is a thin call of the one below it.
+
+#![tactic(auto)]
+
 ghost use Rattle.std.specs.Prelude.{[]};
 ghost use Rattle.layers.specs.Promise.{rooms, open_left, left, Opens, Layers, Closes};
 

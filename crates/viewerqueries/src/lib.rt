@@ -1,4 +1,7 @@
 // The C functions of a summary and of the queries by it. Each is a thin call of the one below it.
+
+#![tactic(auto)]
+
 ghost use Rattle.extract.specs.Promise.{rooms};
 ghost use Rattle.query.specs.Promise.{built_left, query_left, Builds, Queries};
 

@@ -1,4 +1,7 @@
 // The C functions that a viewer links on the text of a mesh, which is written and read back (document 02 (iii)). Each is a thin call of the one below it.
+
+#![tactic(auto)]
+
 ghost use Rattle.std.specs.Prelude.{◌≡◌, ◌/◌, length as length_of};
 ghost use Rattle.writing.specs.Writing.{outcome};
 ghost use Rattle.meshtext.specs.MeshText.{mesh_written, Holds};

@@ -1,4 +1,7 @@
 // The sixfold volumes of all shells, two words each, in the reader's work room.
+
+#![tactic(auto)]
+
 ghost use Rattle.std.specs.Prelude.{◌≡◌, ◌+◌, ◌*◌, ◌<◌, ◌≤◌, ◌^◌, length};
 ghost use Rattle.mesh.specs.Mesh.{triangle_at};
 ghost use Rattle.records.specs.Grown.{most_volume};

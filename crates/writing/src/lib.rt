@@ -1,4 +1,7 @@
 // Numbers and lines of numbers written into a lent room from a place on.
+
+#![tactic(auto)]
+
 ghost use Rattle.std.specs.Prelude.{◌≡◌, ◌++◌, ◌∷◌, [], ◌+◌, ◌*◌, ◌≤◌, ◌<◌, length};
 ghost use Rattle.std.proofs.lemmas.List.Edits.{sets};
 ghost use Rattle.grid.specs.Limits.{longest_number};
@@ -10,7 +13,7 @@ use laws::signed;
 use lines::end_of;
 
 // Number 0 and the length of the text if granted, else the refusal's number and 0.
-#[derive(Drop)]
+#[derive(Clone, Copy)]
 pub struct Written {
     pub number: u32,
     pub length: usize,
