@@ -1,7 +1,7 @@
 -- What the segments of a mode's faces weigh together: where the faces fit, they are those of the low sides, those of the high sides turned round, and the inner ones both ways.
 use mathlib.Core.Path.{◌≡◌, refl, sym, ◌∙◌}
 use mathlib.Core.List.{List, [], ◌∷◌, ◌++◌, map}
-use mathlib.Core.Bool.{Bool, true, false, ◌&&◌, false≢true}
+use mathlib.Core.Bool.{Bool, true, ◌&&◌, false≢true}
 use Prim.Native.Nat.{ℕ, ◌+◌, ◌^◌, min, max}
 use native.Mathlib.Omega.{arith}
 use lib.Dec.{eqb}

@@ -11,7 +11,7 @@ use Rattle.laws.specs.Room.{laid}
 use Rattle.laws.specs.Mesh.{flat}
 use Rattle.grid.specs.Limits.{most_points, most_triangles}
 use Rattle.grid.specs.Grid.{axes, is_above_grey, mark}
-use Rattle.grid.specs.Point.{point_edges, number, place}
+use Rattle.grid.specs.Point.{point_edges, place}
 use Rattle.grid.specs.Mode.{cubes}
 use Rattle.grid.specs.Mesh.{edge_mesh, mesh}
 use Rattle.grid.specs.Work.{size, SidesFit}

@@ -1,6 +1,6 @@
 -- Boxes of document 02 (i), computed: of a shell whose lowest point is in no corner of its box, and of a point in no triangle.
 use mathlib.Core.Path.{◌≡◌, refl}
-use mathlib.Core.List.{List, [], ◌∷◌}
+use mathlib.Core.List.{[], ◌∷◌}
 use Prim.Native.Nat.{ℕ}
 use lib.IntN.{pos}
 use Rattle.laws.specs.Range.{join_to, keep_to}

@@ -70,7 +70,7 @@ pub centre : CentreFigure
 unfolding record_from gathered points_under triangles_under names_under keep_to join_to any_of sum_of_ℤ sixfold determinant diagonals list_to answer_for sum_at sum_after add_triangle cross_at cross squared between answer_from answer_of eq
 centre =
     record {
-      grid_edges_lem = edges_are;
+      grid_edges = edges_are;
       places = points_are;
       inside = marks_are;
       eight = rw triangles_are;

@@ -61,7 +61,7 @@ centre_record volume least greatest =
 
 -- what document 01 says of it, and of its box document 02 (i)
 pub record CentreFigure : Type 0 where
-  pub grid_edges_lem : centre_edges ≡ 14 ∷ 31 ∷ 36 ∷ 39 ∷ 40 ∷ 41 ∷ []
+  pub grid_edges : centre_edges ≡ 14 ∷ 31 ∷ 36 ∷ 39 ∷ 40 ∷ 41 ∷ []
   pub places : centre_points ≡ 256 ∷ 256 ∷ 128 ∷ 256 ∷ 128 ∷ 256 ∷ 128 ∷ 256 ∷ 256 ∷ 384 ∷ 256 ∷ 256 ∷ 256 ∷ 384 ∷ 256 ∷ 256 ∷ 256 ∷ 384 ∷ []
   pub inside : centre_marks ≡ replicate 6 0
   pub eight : triangle_count centre_triangles ≡ 8

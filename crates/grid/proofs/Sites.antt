@@ -1,6 +1,6 @@
 -- Samples by their coordinates.
 use mathlib.Core.Path.{◌≡◌}
-use Prim.Native.Nat.{ℕ, zero, suc, ◌+◌, ◌*◌, ◌-◌, ◌/◌, ◌<◌}
+use Prim.Native.Nat.{ℕ, zero, suc, ◌+◌, ◌*◌, ◌/◌, ◌<◌}
 use native.Mathlib.Nat.{mul-add, mod-add-div, mod-lt, div-lt_iff_lt-mul, mul_comm}
 use native.Mathlib.Omega.{arith}
 use Rattle.grid.specs.Grid.{Size, sample_count, site, coordinate}

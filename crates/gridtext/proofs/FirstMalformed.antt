@@ -12,7 +12,6 @@ use Rattle.grid.specs.Limits.{most_small, most_number}
 use Rattle.grid.specs.Sides.{sides_fit}
 use Rattle.reading.specs.Reading.{Got, bad, got, read_row, GotRows, malformed, ahead, line_then, read_rows}
 use Rattle.reading.specs.Reading.{rows as all-rows}
-use Rattle.lines.specs.Line.{line}
 use Rattle.gridtext.specs.Grid.{read_head, samples_of, smoothing_fits, head_number, refused, granted, with_rows, with_head, read_grid}
 use Rattle.gridtext.specs.Malformed.{RowThen, RowsThen, none, row, Malformed, due, over, FirstMalformed, HeadThen, MalformedAt, head, rows}
 use Rattle.gridtext.specs.declared.Head.{Head}

@@ -18,7 +18,7 @@ use Rattle.layerstate.proofs.Kept.{layer_most}
 use Rattle.layerparts.specs.Layer.{first_sample, layer_edges, layer_triangles, Handed, nothing, layer_through, last_layer}
 use Rattle.layerparts.proofs.Most.{few_of}
 use Rattle.layerparts.proofs.Local.{layers_on, layers_rise}
-use Rattle.layers.specs.Outcome.{Rooms, point_room, triangle_room, granted, layer_hands, closing_hands, closed}
+use Rattle.layers.specs.Outcome.{Rooms, point_room, triangle_room, granted, layer_hands, closing_hands}
 use Rattle.layerruns.specs.Run.{Received, AreSamples, joined, handed_by}
 use Rattle.layerruns.specs.SoFar.{received, both_handed, all_handed, first_layers, all_layers, so_far, standing, state_after, Stood}
 use Rattle.layerruns.proofs.Granted.{Even, handed_even, LayerGranted, ClosingGranted, handed_granted}

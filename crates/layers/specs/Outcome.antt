@@ -1,5 +1,5 @@
 -- What the three calls leave behind: number, counts, result rooms and state room, whole, with the refusals in their order.
-use Rattle.std.specs.Prelude.{List, ◌++◌, cond, not, ◌||◌, ℕ, zero, suc, ◌+◌, ◌-◌, ◌/◌, min, eqb, leb, ltb, length}
+use Rattle.std.specs.Prelude.{List, ◌++◌, cond, not, ◌||◌, ℕ, zero, suc, ◌-◌, ◌/◌, min, eqb, leb, ltb, length}
 use Rattle.laws.specs.Room.{laid}
 use Rattle.laws.specs.Mesh.{flat}
 use Rattle.grid.specs.Limits.{most_points, most_triangles}

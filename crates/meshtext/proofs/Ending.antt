@@ -14,7 +14,7 @@ use Rattle.grid.specs.Limits.{most_points}
 use Rattle.mesh.specs.Check.{lengths_fit}
 use Rattle.records.specs.declared.Shell.{Shell}
 use Rattle.records.specs.Grown.{none}
-use Rattle.writing.specs.Writing.{outcome, written}
+use Rattle.writing.specs.Writing.{outcome}
 use Rattle.writing.specs.declared.Written.{Written}
 use Rattle.writing.proofs.Fields.{written_front, written_not}
 use Rattle.shelllines.specs.ShellLines.{shells_text}

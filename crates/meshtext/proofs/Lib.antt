@@ -1,5 +1,4 @@
--- The whole text; the ways that the writing ends; the answer in a walk; and that one outcome is allowed.
+-- The whole text; the ways that the writing ends; and that one outcome is allowed.
 pub mod MeshTexts
 pub mod Ending
-pub mod Answers
 pub mod OneMesh

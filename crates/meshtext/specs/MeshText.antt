@@ -24,7 +24,7 @@ front_text counts points edges marks triangles =
 
 -- the lines of a mesh with so many shells, of which record n is this: `M`, `V`, `T` and `S`
 unfoldable pub mesh_text : List ℕ → List ℕ → List ℕ → List ℕ → ℕ → (ℕ → Shell) → List ℕ
-mesh_text points edges marks triangles shells record_of_lem = front_text (mesh_counts marks triangles shells) points edges marks triangles ++ shells_text shells record_of_lem
+mesh_text points edges marks triangles shells record_of = front_text (mesh_counts marks triangles shells) points edges marks triangles ++ shells_text shells record_of
 
 -- 6: the lengths are those of a mesh, there is one edge number a point and a record a shell, and no more shells than there may be points
 unfoldable pub lists_fit : ℕ → ℕ → ℕ → ℕ → ℕ → ℕ → Bool

@@ -1,5 +1,5 @@
 -- The mesh that a granted query leaves is one that was extracted here, so that all of demand 3 is said of it too.
-use mathlib.Core.Path.{◌≡◌, ap, sym, subst, ◌∙◌}
+use mathlib.Core.Path.{◌≡◌, ap, sym, ◌∙◌}
 use mathlib.Core.List.{List}
 use Prim.Native.Nat.{ℕ}
 use Rattle.grid.specs.Mode.{cubes}

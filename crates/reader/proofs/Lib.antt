@@ -1,4 +1,3 @@
--- Line 1 has one answer; the reader: the answers of its calls, what they make together, and the walks.
+-- Line 1 has one answer; what the calls of the reader make together.
 pub mod OneCounts
-pub mod Answers
 pub mod Ending

@@ -1,12 +1,9 @@
 -- The list of records after some lines were read into it.
 use mathlib.Core.Path.{◌≡◌, refl, ap, sym, ◌∙◌, subst}
 use mathlib.Core.List.{List, []}
-use mathlib.Core.WellFounded.InvImage
-use mathlib.Core.WellFounded.{WellFounded}
-use Prim.Native.Nat.{ℕ, ◌+◌, ◌-◌, ◌≤◌, ◌<◌, ◌^◌, zero-le}
+use Prim.Native.Nat.{ℕ, ◌+◌, ◌≤◌, ◌<◌}
 use native.Mathlib.Decide.{dec_lt}
 use native.Mathlib.Omega.{arith}
-use lib.WfN.{lt-wf_rel}
 use lib.ListN.{length, get_or, set, drop}
 use lib.Seq.{ext_get_or}
 use Rattle.laws.specs.Room.{laid}
@@ -19,7 +16,7 @@ use Rattle.records.specs.Grown.{none}
 use Rattle.meshread.specs.Lines.{read_shell}
 use Rattle.sameshells.specs.Same.{said_of, shells_at, LinesThere}
 use Rattle.reading.proofs.Again.{lines_many}
-use Rattle.sameshells.proofs.Compared.{Again, again_begin, again_shell, again_next}
+use Rattle.sameshells.proofs.Compared.{Again, again_shell, again_next}
 use Rattle.readrecords.specs.Put.{Puts}
 
 pub none_many : (input : List ℕ) (from : ℕ) → length (shells_at input from 0) ≡ 0
@@ -41,41 +38,18 @@ module _ (input : List ℕ) (from shells : ℕ) where
   abbrev pub shell_said : ℕ → Shell
   shell_said n = get_or (shells_at input from shells) n none
 
-  -- some lines are read, and the next one stands at a place
-  pub record Reached : Type 0 where
-    pub done : ℕ
-    pub at : ℕ
-    pub few : done ≤ shells
-    pub small : at < 2 ^ 64
-    pub again : done < shells → Again input from shells done at
-
-  abbrev pub Nearer : Reached → Reached → Type 0
-  Nearer j i = shells - j.done < shells - i.done
-
-  pub Nearer-wf : WellFounded Nearer
-  Nearer-wf = InvImage.wf (λ (i : Reached). shells - i.done) lt-wf_rel.wf
-
-  abbrev pub begun : from < 2 ^ 64 → (0 < shells → LinesThere input from shells) → Reached
-  begun l there = record { done = 0; at = from; few = zero-le; small = l; again = λ some. again_begin input from shells (there some) }
-
-  module _ (j : Reached) (less : j.done < shells) (before after : List Shell) (behind : ℕ) (p : Puts input j.at j.done before behind after) where
-    pub further : Again input from shells (j.done + 1) behind
+  -- some lines are read, and while one is left the next one stands at a place
+  module _ (done at : ℕ) (again : Again input from shells done at) (less : done < shells) (before after : List Shell) (behind : ℕ) (p : Puts input at done before behind after) where
+    pub further : Again input from shells (done + 1) behind
     further =
         let s = p.line in
-        subst (Again input from shells (j.done + 1)) (sym p.next) (again_next input from shells j.done j.at (j.again less) less s.ok s.shell s.next p.read)
+        subst (Again input from shells (done + 1)) (sym p.next) (again_next input from shells done at again less s.ok s.shell s.next p.read)
 
-    pub one_fewer : j.done + 1 ≤ shells
-    one_fewer = omega (arith, less)
+    said_here : shell_said done ≡ p.line.shell
+    said_here = let s = p.line in again_shell input from shells done at again less s.ok s.shell s.next p.read
 
-    -- one line more
-    abbrev pub onwards : behind < 2 ^ 64 → Reached
-    onwards l = record { done = j.done + 1; at = behind; few = one_fewer; small = l; again = λ more. further }
-
-    said_here : shell_said j.done ≡ p.line.shell
-    said_here = let s = p.line in again_shell input from shells j.done j.at (j.again less) less s.ok s.shell s.next p.read
-
-    pub put_said : after ≡ set before j.done (shell_said j.done)
-    put_said = p.stored ∙ ap (set before j.done) (sym said_here)
+    pub put_said : after ≡ set before done (shell_said done)
+    put_said = p.stored ∙ ap (set before done) (sym said_here)
 
   module _ (ys : List Shell) where
     -- the list after n lines

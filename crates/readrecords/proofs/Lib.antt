@@ -1,3 +1,2 @@
--- The records of a text's lines: the answer of the reader of a line, the list after some lines, and the walks.
-pub mod Answers
+-- The list of records after some lines of a text were read into it.
 pub mod Filled

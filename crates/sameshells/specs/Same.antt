@@ -33,11 +33,11 @@ SameColumn said shells kind work column = (n : ℕ) → n < shells → field_of 
 
 -- one field of every shell is that of its record
 abbrev pub SameField : List Shell → ℕ → ℕ → (ℕ → Shell) → Type 0
-SameField said shells kind record_of_lem = (n : ℕ) → n < shells → field_of kind (get_or said n none) ≡ field_of kind (record_of_lem n)
+SameField said shells kind record_of = (n : ℕ) → n < shells → field_of kind (get_or said n none) ≡ field_of kind (record_of n)
 
 -- all fields are but the volume, of which there are ten
 abbrev pub SameFields : List Shell → ℕ → (ℕ → Shell) → Type 0
-SameFields said shells record_of_lem = (kind : ℕ) → kind < 10 → SameField said shells kind record_of_lem
+SameFields said shells record_of = (kind : ℕ) → kind < 10 → SameField said shells kind record_of
 
 -- the column may have changed, and nothing else
 pub record ColumnLeft (v t shells : ℕ) (before after : List ℕ) : Type 0 where

@@ -27,4 +27,4 @@ longest_shell = 2 + longest_field * 4 + longest_signed + longest_field * 6
 
 -- the lines of the first shells, of which record n is this
 unfoldable pub shells_text : ℕ → (ℕ → Shell) → List ℕ
-shells_text shells record_of_lem = join_to shells (λ n. shell_text (record_of_lem n))
+shells_text shells record_of = join_to shells (λ n. shell_text (record_of n))

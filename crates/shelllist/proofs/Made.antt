@@ -180,7 +180,7 @@ module _ (points triangles marks found : List ℕ) (shells : ℕ) (room : List S
       }
 
   pub fill_fits : FillFits points triangles marks found shells room
-  fill_fits = record { enough = enough; points_fit = point_turn; triangles_fit_lem = triangle_turn }
+  fill_fits = record { enough = enough; points_fit = point_turn; triangles_fit = triangle_turn }
 
   whole : (n : ℕ) → partly points triangles marks found shells room enough (length found) (triangle_count triangles) n ≡ record_of points triangles marks found n
   unfolding points_under triangles_under

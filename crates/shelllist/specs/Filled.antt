@@ -68,4 +68,4 @@ records_filled points triangles marks numbers shells records =
 pub record FillFits (points triangles marks numbers : List ℕ) (shells : ℕ) (records : List Shell) : Type 0 where
   pub enough : shells ≤ length records
   pub points_fit : PointsFit points marks numbers (emptied shells records)
-  pub triangles_fit_lem : TrianglesFit points triangles numbers (points_added points marks numbers (length numbers) (emptied shells records))
+  pub triangles_fit : TrianglesFit points triangles numbers (points_added points marks numbers (length numbers) (emptied shells records))

@@ -10,7 +10,7 @@ use lib.ListN.{length, get_or, set, length-set}
 use lib.Seq.{get_or-set_same, get_or-set_other}
 use borrow.Author.Tests.{eqb-true, eqb-false}
 use Rattle.measures.specs.declared.vectors.Vector.{Vector}
-use Rattle.measures.specs.Vectors.{vector, vector_at, put_vector}
+use Rattle.measures.specs.Vectors.{vector_at, put_vector}
 use Rattle.sums.specs.Sums.{Sum, at_point}
 use Rattle.sums.specs.Rooms.{sum_at}
 

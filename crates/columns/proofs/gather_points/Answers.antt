@@ -1,0 +1,52 @@
+-- `columns::gather_points` meets its contract: the column of the points so far, then all of them.
+use mathlib.Core.Path.{◌≡◌, ap, ◌∙◌}
+use native.Mathlib.Omega.{arith}
+use lib.Seq.{length-sets}
+use Rattle.columns.specs.Columns.{start_by}
+use Rattle.columns.proofs.Rooms.{shells_inside}
+use Rattle.columns.proofs.Turns.{points_after, begun, points_begun, points_ended, point_turn, point_put}
+use Rattle.columns.proofs.gather_points.Goals as goal
+
+pub fill-requires : goal.fill-requires
+fill-requires c =
+    shells_inside c.args.shells c.args.v c.args.t c.args.work.now c.requires
+
+pub loop-i-init : goal.loop-i-init
+loop-i-init c =
+    let a = c.args in
+    let x = c.start_of.result in
+    record {
+      stands = begun a.shells a.v a.t a.work.now c.requires c.fill.new.work x c.fill.ensures;
+      is_way = c.way_of-way.ensures;
+      small = omega arith;
+      put = points_begun a.shells a.v a.t a.work.now c.requires c.fill.new.work x c.fill.ensures a.kind (c.start_of.ensures ∙ ap start_by c.way_of-way.ensures);
+    }
+
+pub add_point-requires : goal.add_point-requires
+add_point-requires c =
+    let a = c.args in
+    rw (c.loop-i.invariant.is_way, c.loop-i.invariant.put) (point_turn a.shells a.v a.t c.fill.new.work c.loop-i.invariant.stands a.kind c.loop-i.i c.loop-i-test.true)
+
+pub loop-i-preserved : goal.loop-i-preserved
+loop-i-preserved c =
+    let a = c.args in
+    record {
+      stands = c.loop-i.invariant.stands;
+      is_way = c.loop-i.invariant.is_way;
+      small = omega arith;
+      put =
+          point_put a.shells a.v a.t c.fill.new.work c.loop-i.invariant.stands a.kind c.loop-i.i c.loop-i-test.true
+          c.loop-i.invariant.is_way c.loop-i.invariant.put c.add_point.ensures;
+    }
+
+pub shape_of-work : goal.shape_of-work
+shape_of-work c =
+    rw (c.loop-i.invariant.put, length-sets) c.fill.auto.work
+
+pub returns : goal.returns
+returns c =
+    let a = c.args in
+    let end : c.loop-i.i ≡ a.v = omega arith in
+    c.loop-i.invariant.put
+    ∙ ap (points_after a.shells a.v a.t c.fill.new.work a.kind) end
+    ∙ points_ended a.shells a.v a.t a.work.now c.requires c.fill.new.work c.start_of.result c.fill.ensures a.kind a.v

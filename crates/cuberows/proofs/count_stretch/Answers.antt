@@ -1,0 +1,86 @@
+-- `cuberows::count_stretch` meets its contract. The loop's invariant: some cubes are passed, and the sum is theirs.
+use mathlib.Core.Path.{◌≡◌, refl, ap, sym, ◌∙◌}
+use mathlib.Core.Bool.{cond}
+use Prim.Native.Nat.{ℕ, ◌+◌}
+use native.Mathlib.Omega.{arith}
+use lib.Count.{count_trailing_zeros}
+use Rattle.laws.specs.Bits.{word_bits}
+use Rattle.laws.specs.Range.{sum_to}
+use Rattle.laws.proofs.Ranges.{sum_next, sum_quiet}
+use Rattle.laws.proofs.Scan.{NextBit, left_all, next_bit, none_left}
+use Rattle.cube.specs.Answer.{count}
+use Rattle.cuberows.specs.Cubes.{word_case, busy_count, stretch_count}
+use Rattle.cuberows.proofs.Cases.{CaseRead, case_read}
+use Rattle.cuberows.proofs.Layers.{busy_most}
+use Rattle.cuberows.proofs.count_stretch.Goals as goal
+use Rattle.cuberows.proofs.count_stretch.Goals.{After-case-case, In-loop-busy}
+
+pub loop-busy-init : goal.loop-busy-init
+unfolding sum_to
+loop-busy-init c = (0, omega arith, left_all c.args.cubes, omega (arith, c.ranges), refl)
+
+-- in a turn: the next busy cube
+abbrev cube_here : In-loop-busy → ℕ
+cube_here c = count_trailing_zeros word_bits c.loop-busy.busy
+
+next_here : (c : In-loop-busy) → NextBit word_bits c.args.cubes c.loop-busy.invariant.0 c.loop-busy.busy (cube_here c)
+next_here c =
+    let l = c.loop-busy in
+    next_bit word_bits c.args.cubes l.invariant.0 l.busy l.invariant.2 l.invariant.3 c.loop-busy-test.true
+
+pub case-case-requires : goal.case-case-requires
+case-case-requires c = (next_here (goal.at.case-case-requires c).In-loop-busy).small
+
+-- the case that was read, and its count
+read : (c : After-case-case) → CaseRead c.args.counts.now c.args.corners ((let it : ℕ = count_trailing_zeros word_bits c.loop-busy.busy in it)) c.case-case.result
+read c = case_read c.args.counts.now c.args.corners ((let it : ℕ = count_trailing_zeros word_bits c.loop-busy.busy in it)) _ c.requires c.case-case.ensures
+
+pub bounds-counts-case : goal.bounds-counts-case
+bounds-counts-case c = (read (goal.at.bounds-counts-case c).After-case-case).small
+
+pub overflow_cast-sum : goal.overflow_cast-sum
+overflow_cast-sum c = omega (arith, (read (goal.at.overflow_cast-sum c).After-case-case).few)
+
+pub overflow_add-sum : goal.overflow_add-sum
+overflow_add-sum c =
+    let l = c.loop-busy in
+    let a = c.args in
+    omega (arith, (read (goal.at.overflow_add-sum c).After-case-case).few, l.invariant.1, l.invariant.4, busy_most a.corners a.cubes l.invariant.0)
+
+pub overflow_sub-busy : goal.overflow_sub-busy
+overflow_sub-busy c = omega (arith, c.loop-busy-test.true)
+
+pub loop-busy-smaller : goal.loop-busy-smaller
+loop-busy-smaller c = (next_here (goal.at.loop-busy-smaller c).In-loop-busy).falls
+
+pub loop-busy-preserved : goal.loop-busy-preserved
+loop-busy-preserved c =
+    let a = c.args in
+    let l = c.loop-busy in
+    let f = next_here (goal.at.loop-busy-preserved c).In-loop-busy in
+    let t = cube_here (goal.at.loop-busy-preserved c).In-loop-busy in
+    let known : ℕ → ℕ = busy_count a.corners a.cubes in
+    let mine : known t ≡ count (word_case a.corners t) = ap (λ b. cond b (count (word_case a.corners t)) 0) f.set in (
+      t + 1,
+      omega (arith, f.small),
+      f.left,
+      omega (arith, f.falls, l.invariant.3),
+      omega (
+        arith,
+        l.invariant.4,
+        (read (goal.at.loop-busy-preserved c).After-case-case).counted,
+        ap count (read (goal.at.loop-busy-preserved c).After-case-case).is,
+        mine,
+        sum_quiet l.invariant.0 t known f.from (λ i h k. ap (λ b. cond b (count (word_case a.corners i)) 0) (f.quiet i h k)),
+        sum_next t known,
+      ),
+    )
+
+pub returns : goal.returns
+unfolding stretch_count
+returns c =
+    let a = c.args in
+    let l = c.loop-busy in
+    l.invariant.4
+    ∙ sym (sum_quiet l.invariant.0 word_bits (busy_count a.corners a.cubes) l.invariant.1
+    (λ i h k. ap (λ b. cond b (count (word_case a.corners i)) 0) (none_left a.cubes l.invariant.0 l.busy l.invariant.2 c.loop-busy-test.false i h)))

@@ -1,2 +1,0 @@
--- The walks over the lent records.
-pub mod Records

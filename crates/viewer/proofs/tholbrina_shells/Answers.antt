@@ -1,0 +1,9 @@
+-- `viewer::tholbrina_shells` meets its contract: no more shells than points, so the count fits.
+use native.Mathlib.Omega.{arith}
+use Rattle.shelllist.proofs.Few.{few_shells}
+use Rattle.viewer.proofs.tholbrina_shells.Goals as goal
+
+pub overflow_cast-shell_count : goal.overflow_cast-shell_count
+overflow_cast-shell_count c =
+    let a = c.args in
+    record { fits = omega (arith, few_shells a.points.now a.triangles.now a.marks.now a.numbers.now a.work.now a.records.now c.shells-listed.ensures) }

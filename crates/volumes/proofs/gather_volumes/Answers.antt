@@ -1,0 +1,49 @@
+-- `volumes::gather_volumes` meets its contract: the volumes from the triangles so far, then from all of them.
+use mathlib.Core.Path.{◌≡◌, ap, ◌∙◌}
+use native.Mathlib.Omega.{arith}
+use lib.Seq.{length-sets}
+use Rattle.columns.proofs.Rooms.{few_shells}
+use Rattle.volumes.proofs.Volumes.{volumes_after, volume_turn, volume_put, begun, volumes_begun, volumes_ended, volumes_all}
+use Rattle.volumes.proofs.gather_volumes.Goals as goal
+
+pub start-requires : goal.start-requires
+start-requires c =
+    (few_shells c.args.shells c.args.v c.args.t c.args.work.now c.requires, c.requires.whole)
+
+pub loop-k-init : goal.loop-k-init
+loop-k-init c =
+    let a = c.args in
+    record {
+      stands = begun a.shells a.v a.t a.work.now c.requires c.start.new.work c.start.ensures;
+      small = omega arith;
+      put = volumes_begun a.shells a.v a.t a.work.now c.requires c.start.new.work c.start.ensures;
+    }
+
+pub add_triangle-requires : goal.add_triangle-requires
+add_triangle-requires c =
+    let a = c.args in
+    rw c.loop-k.invariant.put (volume_turn a.shells a.v a.t c.start.new.work c.loop-k.invariant.stands c.loop-k.k c.loop-k-test.true)
+
+pub loop-k-preserved : goal.loop-k-preserved
+loop-k-preserved c =
+    let a = c.args in
+    record {
+      stands = c.loop-k.invariant.stands;
+      small = omega arith;
+      put =
+          volume_put a.shells a.v a.t c.start.new.work c.loop-k.invariant.stands c.loop-k.k c.loop-k-test.true
+          c.loop-k.invariant.put c.add_triangle.ensures;
+    }
+
+pub shape_of-work : goal.shape_of-work
+shape_of-work c =
+    rw (c.loop-k.invariant.put, length-sets, length-sets) c.start.auto.work
+
+pub returns : goal.returns
+returns c =
+    let a = c.args in
+    let end : c.loop-k.k ≡ a.t = omega arith in
+    c.loop-k.invariant.put
+    ∙ ap (volumes_after a.shells a.v a.t c.start.new.work) end
+    ∙ volumes_ended a.shells a.v a.t a.work.now c.requires c.start.new.work c.start.ensures a.t
+    ∙ volumes_all a.shells a.v a.t a.work.now c.requires
