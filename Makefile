@@ -1,4 +1,4 @@
-# make test     proves every crate from nothing, tries the must-fail edits, and runs the tests from outside
+# make test     proves every crate, tries the must-fail edits, and runs the tests from outside
 # make run      runs the program on a small casting, then lists the voids of the example casting
 # make build    proves and builds the library, the program and the tool, as `make run` does first
 # make install  installs them below PREFIX, and with DESTDIR below that folder

@@ -1,4 +1,4 @@
-//! The program for small grids, as `rt check small` leaves it in target/bin: started as a child process, and what it answers held to the reference.
+//! The program for small grids, as tools/build leaves it in target/bin: started as a child process, and what it answers held to the reference.
 
 #![forbid(unsafe_code)]
 
@@ -22,7 +22,7 @@ const RUNNER: &str = "CARGO_TARGET_X86_64_UNKNOWN_LINUX_GNU_RUNNER";
 fn words() -> Vec<String> {
     assert!(
         Path::new(PROGRAM).is_file(),
-        "there is no target/bin/small: run `rt check small` first"
+        "there is no target/bin/small: run tools/build first"
     );
     let runner = std::env::var(RUNNER).unwrap_or_default();
     let words = runner.split_whitespace().chain([PROGRAM]);
