@@ -9,6 +9,7 @@ ghost use Rattle.grid.specs.Point.{apart, offset as offset_of};
 ghost use Rattle.grid.specs.Work.{sample_of};
 
 pub mod limits;
+pub mod refusal;
 
 use limits::{LEAST_SIDE, MOST_NUMBER, MOST_SIDE, UNIT};
 

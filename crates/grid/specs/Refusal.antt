@@ -1,0 +1,35 @@
+-- The refusals by their numbers (document 01, "Numbers that refuse", and document 02), and what an answer says as numbers.
+use Rattle.std.specs.Prelude.{ℕ, Result, Ok, Err}
+use Rattle.grid.specs.declared.refusal.Refusal.{Refusal}
+use Rattle.grid.specs.declared.refusal.Refusal.TheVariants.{Side, Samples, Room, Points, Triangles, Lengths, Corners, Coordinates, Marks, Smoothing, Shells, GridLine, Small, Beyond, MeshLine, OtherShells, Layer, Closing, Summary}
+
+abbrev pub number_of : Refusal → ℕ
+number_of Side = 1
+number_of Samples = 2
+number_of Room = 3
+number_of Points = 4
+number_of Triangles = 5
+number_of Lengths = 6
+number_of Corners = 7
+number_of Coordinates = 8
+number_of Marks = 9
+number_of Smoothing = 10
+number_of Shells = 11
+number_of (GridLine at) = 12
+number_of Small = 13
+number_of Beyond = 14
+number_of (MeshLine at) = 15
+number_of OtherShells = 16
+number_of Layer = 17
+number_of Closing = 18
+number_of Summary = 19
+
+-- an answer's number: 0 if granted
+abbrev pub told : {A : Type 0} → Result A Refusal → ℕ
+told (Ok a) = 0
+told (Err e) = number_of e
+
+-- what is answered if granted, else what stands for nothing
+abbrev pub granted_or : {A : Type 0} → A → Result A Refusal → A
+granted_or none (Ok a) = a
+granted_or none (Err e) = none

@@ -1,0 +1,56 @@
+// Document 01, "Numbers that refuse", and those that document 02 adds.
+ghost use Rattle.std.specs.Prelude.{◌≡◌};
+ghost use Rattle.grid.specs.Refusal.{number_of};
+
+// Why a call is refused. A malformed line of a text is named.
+#[derive(Clone, Copy, Debug, PartialEq, Eq)]
+pub enum Refusal {
+    Side,
+    Samples,
+    Room,
+    Points,
+    Triangles,
+    Lengths,
+    Corners,
+    Coordinates,
+    Marks,
+    Smoothing,
+    Shells,
+    GridLine(u32),
+    Small,
+    Beyond,
+    MeshLine(u64),
+    OtherShells,
+    Layer,
+    Closing,
+    Summary,
+}
+
+impl Refusal {
+    // The number by which the documents and C name it.
+    pub fn number(self) -> u32
+        ensures { result ≡ number_of self }
+    {
+        match self {
+            Refusal::Side => 1,
+            Refusal::Samples => 2,
+            Refusal::Room => 3,
+            Refusal::Points => 4,
+            Refusal::Triangles => 5,
+            Refusal::Lengths => 6,
+            Refusal::Corners => 7,
+            Refusal::Coordinates => 8,
+            Refusal::Marks => 9,
+            Refusal::Smoothing => 10,
+            Refusal::Shells => 11,
+            Refusal::GridLine(_) => 12,
+            Refusal::Small => 13,
+            Refusal::Beyond => 14,
+            Refusal::MeshLine(_) => 15,
+            Refusal::OtherShells => 16,
+            Refusal::Layer => 17,
+            Refusal::Closing => 18,
+            Refusal::Summary => 19,
+        }
+    }
+}
