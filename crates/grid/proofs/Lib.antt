@@ -1,4 +1,5 @@
 -- What later floors cite about samples, edges and places; and the empty mesh of grey value 0.
+pub mod Refused
 pub mod Sides
 pub mod Sites
 pub mod Crossings

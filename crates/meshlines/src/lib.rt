@@ -32,11 +32,9 @@ pub fn points_length(points: &[u32], edges: &[u32], marks: &[u8], v: usize) -> u
     ensures small { result ≤ longest_line 5 * v }
 {
     let mut sum = 0;
-    let mut i = 0;
-    while i < v {
+    for i in 0..v {
         let numbers = point_numbers(points, edges, marks, i);
         sum += 2 + fields_length(&numbers);
-        i += 1;
     }
     sum
 }
@@ -56,11 +54,9 @@ pub fn write_points(
     ensures text { room.new ≡ sets room.old from (points_text points.now edges.now marks.now v) }
 {
     let mut at = from;
-    let mut i = 0;
-    while i < v {
+    for i in 0..v {
         let numbers = point_numbers(points, edges, marks, i);
         at = write_lettered(b'V', &numbers, room, at);
-        i += 1;
     }
     at
 }
@@ -81,11 +77,9 @@ pub fn triangles_length(triangles: &[u32], t: usize) -> usize
     ensures small { result ≤ longest_line 3 * t }
 {
     let mut sum = 0;
-    let mut i = 0;
-    while i < t {
+    for i in 0..t {
         let numbers = triangle_numbers(triangles, i);
         sum += 2 + fields_length(&numbers);
-        i += 1;
     }
     sum
 }
@@ -98,11 +92,9 @@ pub fn write_triangles(triangles: &[u32], t: usize, room: &mut [u8], from: usize
     ensures text { room.new ≡ sets room.old from (triangles_text triangles.now t) }
 {
     let mut at = from;
-    let mut i = 0;
-    while i < t {
+    for i in 0..t {
         let numbers = triangle_numbers(triangles, i);
         at = write_lettered(b'T', &numbers, room, at);
-        i += 1;
     }
     at
 }

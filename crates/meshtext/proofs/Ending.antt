@@ -15,7 +15,6 @@ use Rattle.mesh.specs.Check.{lengths_fit}
 use Rattle.records.specs.declared.Shell.{Shell}
 use Rattle.records.specs.Grown.{none}
 use Rattle.writing.specs.Writing.{outcome}
-use Rattle.writing.specs.declared.Written.{Written}
 use Rattle.writing.proofs.Fields.{written_front, written_not}
 use Rattle.shelllines.specs.ShellLines.{shells_text}
 use Rattle.meshtext.specs.MeshText.{mesh_counts, front_text, mesh_text, lists_fit, Holds, mesh_written}
@@ -34,32 +33,15 @@ module _ (points edges marks triangles : List ℕ) (records : List Shell) (shell
   abbrev tail : List ℕ
   tail = shells_text shells (λ n. get_or records n none)
 
-  -- what the call promises of its answer and of the room
-  abbrev pub Promised : Written → List ℕ → Type 0
-  Promised r left =
-      Holds (length marks) (length triangles / 3) shells (length room) r.number
-      × (outcome r.number r.length left ≡ mesh_written points edges marks triangles records shells room)
+  -- what the call promises of its number and length, and of the room
+  abbrev pub Promised : ℕ → ℕ → List ℕ → Type 0
+  Promised number long left =
+      Holds (length marks) (length triangles / 3) shells (length room) number
+      × (outcome number long left ≡ mesh_written points edges marks triangles records shells room)
 
-  -- what the check says
-  abbrev pub Checked : Written → Type 0
-  Checked r = r ≡ record { number = cond fits 0 6; length = 0 }
-
-  pub lists_refused : (r : Written) → Checked r → (r.number ≡ 0 → ⊥) → Promised r room
+  pub lists_refused : fits ≡ false → Promised 6 0 room
   unfolding mesh_written
-  lists_refused r e given = go fits refl
-    where
-      go : (b : Bool) → fits ≡ b → Promised r room
-      go true h = absurd (given (ap (λ w. w.number) e ∙ rw h))
-      go false h = rw (e, h) (λ l t. absurd (omega (arith, t)), refl)
-
-  pub lists_fit_lem : (r : Written) → Checked r → r.number ≡ 0 → fits ≡ true
-  lists_fit_lem r e none_given = go fits refl
-    where
-      go : (b : Bool) → fits ≡ b → fits ≡ true
-      go true h = h
-      go false h =
-          let six : r.number ≡ 6 = ap (λ w. w.number) e ∙ rw h in
-          absurd (omega (arith, six, none_given))
+  lists_refused h = rw h (λ l t. absurd (omega (arith, t)), refl)
 
   module _ (fit : fits ≡ true) where
     -- its parts, in their order
@@ -78,11 +60,11 @@ module _ (points edges marks triangles : List ℕ) (records : List Shell) (shell
     records_fit = (leb-true shells (length records) parts.2, leb-true shells most_points parts.3)
 
     -- the lines before those of the shells, and how long the shells' are
-    module _ (r : Written) (left : List ℕ) (more : ℕ) (long : more ≡ length tail) (said : outcome r.number r.length left ≡ front_written front more room) where
+    module _ (number at : ℕ) (left : List ℕ) (more : ℕ) (long : more ≡ length tail) (said : outcome number at left ≡ front_written front more room) where
       -- the room was too short, or they stand in it
       data Ended : Type 0 where
-        short : length room < length text → r ≡ record { number = 3; length = 0 } → left ≡ room → Ended
-        stands : length text ≤ length room → r ≡ record { number = 0; length = length front } → left ≡ sets room 0 front → Ended
+        short : length room < length text → number ≡ 3 → at ≡ 0 → left ≡ room → Ended
+        stands : length text ≤ length room → number ≡ 0 → at ≡ length front → left ≡ sets room 0 front → Ended
 
       whole : length text ≡ length front + length tail
       unfolding mesh_text
@@ -92,35 +74,35 @@ module _ (points edges marks triangles : List ℕ) (records : List Shell) (shell
       unfolding front_written
       ended = go (ltb (length room) (length front + more)) refl said
         where
-          go : (b : Bool) → ltb (length room) (length front + more) ≡ b → outcome r.number r.length left ≡ cond b (outcome 3 0 room) (outcome 0 (length front) (sets room 0 front)) → Ended
-          go true h e = short (omega (arith, ltb-true (length room) (length front + more) h, whole, long)) (ap (λ o. record { number = o.number; length = o.length }) e) (ap (λ o. o.room) e)
-          go false h e = stands (omega (arith, ltb-false (length room) (length front + more) h, whole, long)) (ap (λ o. record { number = o.number; length = o.length }) e) (ap (λ o. o.room) e)
+          go : (b : Bool) → ltb (length room) (length front + more) ≡ b → outcome number at left ≡ cond b (outcome 3 0 room) (outcome 0 (length front) (sets room 0 front)) → Ended
+          go true h e = short (omega (arith, ltb-true (length room) (length front + more) h, whole, long)) (ap (λ o. o.number) e) (ap (λ o. o.length) e) (ap (λ o. o.room) e)
+          go false h e = stands (omega (arith, ltb-false (length room) (length front + more) h, whole, long)) (ap (λ o. o.number) e) (ap (λ o. o.length) e) (ap (λ o. o.room) e)
 
-      pub room_refused : Holds (length marks) (length triangles / 3) shells (length room) r.number → (r.number ≡ 0 → ⊥) → Promised r left
+      pub room_refused : Holds (length marks) (length triangles / 3) shells (length room) number → (number ≡ 0 → ⊥) → Promised number 0 left
       unfolding mesh_written
       room_refused holds given = go ended
         where
-          go : Ended → Promised r left
-          go (short l e f) = (holds, rw (fit, e, f) (written_not text room l))
-          go (stands l e f) = absurd (given (ap (λ w. w.number) e))
+          go : Ended → Promised number 0 left
+          go (short l e p f) = (holds, rw (fit, e, f) (written_not text room l))
+          go (stands l e p f) = absurd (given e)
 
-      pub tail_fits : r.number ≡ 0 → r.length + length tail ≤ length left
-      tail_fits none_given = go ended
+      pub tail_fits : number ≡ 0 → at + length tail ≤ length left
+      tail_fits granted = go ended
         where
-          go : Ended → r.length + length tail ≤ length left
-          go (short l e f) = absurd (omega (arith, ap (λ w. w.number) e, none_given))
-          go (stands l e f) = rw (e, f) (omega (arith, l, whole, length-sets room 0 front))
+          go : Ended → at + length tail ≤ length left
+          go (short l e p f) = absurd (omega (arith, e, granted))
+          go (stands l e p f) = rw (p, f) (omega (arith, l, whole, length-sets room 0 front))
 
-      pub mesh_written_lem : r.number ≡ 0 → (n : ℕ) (end : List ℕ) → n ≡ r.length + length tail → end ≡ sets left r.length tail → Promised (record { number = 0; length = n }) end
+      pub mesh_written_lem : number ≡ 0 → (n : ℕ) (end : List ℕ) → n ≡ at + length tail → end ≡ sets left at tail → Promised 0 n end
       unfolding mesh_written mesh_text
-      mesh_written_lem none_given n end q s = go ended
+      mesh_written_lem granted n end q s = go ended
         where
           from_front : sets (sets room 0 front) (length front) tail ≡ sets room 0 text
           from_front = let start : length front ≡ 0 + length front = omega arith in ap (λ k. sets (sets room 0 front) k tail) start ∙ sets_append room 0 front tail
 
-          go : Ended → Promised (record { number = 0; length = n }) end
-          go (short l e f) = absurd (omega (arith, ap (λ w. w.number) e, none_given))
-          go (stands l e f) = (
+          go : Ended → Promised 0 n end
+          go (short l e p f) = absurd (omega (arith, e, granted))
+          go (stands l e p f) = (
             λ l t. absurd (omega (arith, t)),
-            rw fit (written_front text room end n l (q ∙ rw (e, whole)) (s ∙ rw (e, f) from_front)),
+            rw fit (written_front text room end n l (q ∙ rw (p, whole)) (s ∙ rw (p, f) from_front)),
           )

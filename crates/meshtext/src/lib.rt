@@ -5,45 +5,34 @@
 ghost use Rattle.std.specs.Prelude.{◌≡◌, cond, ◌*◌, ◌/◌, ◌≤◌, length};
 ghost use Rattle.std.proofs.lemmas.List.Edits.{sets};
 ghost use Rattle.grid.specs.Limits.{most_points};
+ghost use Rattle.grid.specs.Refusal.{told, granted_or};
 ghost use Rattle.shelllines.specs.ShellLines.{longest_shell};
 ghost use Rattle.writing.specs.Writing.{outcome};
 ghost use Rattle.meshtext.specs.MeshText.{mesh_counts, front_text, longest_front, lists_fit, Holds, mesh_written};
 ghost use Rattle.meshtext.specs.Front.{FrontFits, front_written};
 
 use grid::limits::MOST_POINTS;
+use grid::refusal::Refusal;
 use meshlines::{points_length, triangles_length, write_points, write_triangles};
 use records::Shell;
 use shelllines::{shells_length, write_shells};
-use writing::{Written, fields_length, refused, write_lettered};
+use writing::{fields_length, write_lettered};
 
-// Refuses lists that do not fit each other with 6.
-fn check_lists(
+// Do the lists fit each other? No mesh has more shells than points.
+fn lists_fit(
     points: usize,
     edges: usize,
     v: usize,
     triangles: usize,
     records: usize,
     shells: usize,
-) -> Written
-    ensures { result ≡ record { number = cond (lists_fit points edges v triangles records shells) 0 6; length = 0 } }
+) -> bool
+    ensures { result ≡ lists_fit points edges v triangles records shells }
 {
-    if !mesh::lengths_fit(points, triangles, v) {
-        return refused(6);
-    }
-    if edges != v {
-        return refused(6);
-    }
-    if shells > records {
-        return refused(6);
-    }
-    // No mesh has more shells than points.
-    if shells > (MOST_POINTS as usize) {
-        return refused(6);
-    }
-    Written {
-        number: 0,
-        length: 0,
-    }
+    mesh::lengths_fit(points, triangles, v)
+        && edges == v
+        && shells <= records
+        && shells <= MOST_POINTS as usize
 }
 
 // How many bytes the lines before those of the shells take.
@@ -90,11 +79,11 @@ fn write_front(
     shells: usize,
     more: usize,
     room: &mut [u8],
-) -> Written
+) -> Result<usize, Refusal>
     requires { FrontFits points.now edges.now marks.now triangles.now × (shells ≤ most_points) × (more ≤ longest_shell * shells) }
     ensures { let text = front_text (mesh_counts marks.now triangles.now shells) points.now edges.now marks.now triangles.now in
-        Holds (length marks.now) (length triangles.now / 3) shells (length room.old) result.number
-        × (outcome result.number result.length room.new ≡ front_written text more room.old) }
+        Holds (length marks.now) (length triangles.now / 3) shells (length room.old) (told result)
+        × (outcome (told result) (granted_or 0 result) room.new ≡ front_written text more room.old) }
 {
     let counts = [
         marks.len() as u32,
@@ -103,10 +92,10 @@ fn write_front(
     ];
     let length = front_length(&counts, points, edges, marks, triangles);
     if room.len() < length + more {
-        return refused(3);
+        return Err(Refusal::Room);
     }
     write_lines(&counts, points, edges, marks, triangles, room);
-    Written { number: 0, length }
+    Ok(length)
 }
 
 // Writes the text of a mesh and the first of the lent records, one a shell, to the front of the room, and answers its length.
@@ -119,12 +108,12 @@ pub fn write_mesh(
     records: &[Shell],
     shells: usize,
     room: &mut [u8],
-) -> Written
-    ensures { let after = outcome result.number result.length room.new in
-        Holds (length marks.now) (length triangles.now / 3) shells (length room.old) result.number
+) -> Result<usize, Refusal>
+    ensures { let after = outcome (told result) (granted_or 0 result) room.new in
+        Holds (length marks.now) (length triangles.now / 3) shells (length room.old) (told result)
         × (after ≡ mesh_written points.now edges.now marks.now triangles.now records.now shells room.old) }
 {
-    let fit = check_lists(
+    let fit = lists_fit(
         points.len(),
         edges.len(),
         marks.len(),
@@ -132,14 +121,10 @@ pub fn write_mesh(
         records.len(),
         shells,
     );
-    if fit.number != 0 {
-        return fit;
+    if !fit {
+        return Err(Refusal::Lengths);
     }
     let more = shells_length(records, shells);
-    let front = write_front(points, edges, marks, triangles, shells, more, room);
-    if front.number != 0 {
-        return front;
-    }
-    let length = write_shells(records, shells, room, front.length);
-    Written { number: 0, length }
+    let front = write_front(points, edges, marks, triangles, shells, more, room)?;
+    Ok(write_shells(records, shells, room, front))
 }

@@ -61,10 +61,8 @@ pub fn shells_length(records: &[Shell], shells: usize) -> usize
     ensures { (result ≡ length (shells_text shells (λ n. get_or records.now n none))) × (result ≤ longest_shell * shells) }
 {
     let mut sum = 0;
-    let mut n = 0;
-    while n < shells {
+    for n in 0..shells {
         sum += shell_length(records[n]);
-        n += 1;
     }
     sum
 }
@@ -76,10 +74,8 @@ pub fn write_shells(records: &[Shell], shells: usize, room: &mut [u8], from: usi
         (result ≡ from + length text) × (room.new ≡ sets room.old from text) }
 {
     let mut at = from;
-    let mut n = 0;
-    while n < shells {
+    for n in 0..shells {
         at = write_shell(records[n], room, at);
-        n += 1;
     }
     at
 }

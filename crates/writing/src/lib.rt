@@ -5,25 +5,14 @@
 ghost use Rattle.std.specs.Prelude.{◌≡◌, ◌++◌, ◌∷◌, [], ◌+◌, ◌*◌, ◌≤◌, ◌<◌, length};
 ghost use Rattle.std.proofs.lemmas.List.Edits.{sets};
 ghost use Rattle.grid.specs.Limits.{longest_number};
+ghost use Rattle.grid.specs.Refusal.{told, granted_or};
 ghost use Rattle.lines.specs.Decimal.{decimal, signed};
 ghost use Rattle.lines.specs.Line.{longest_field, most_fields, fields, lettered};
 ghost use Rattle.writing.specs.Writing.{outcome, refusal_written, HoldsRefusal};
 
+use grid::refusal::Refusal;
 use laws::signed;
 use lines::end_of;
-
-// Number 0 and the length of the text if granted, else the refusal's number and 0.
-#[derive(Clone, Copy)]
-pub struct Written {
-    pub number: u32,
-    pub length: usize,
-}
-
-pub fn refused(number: u32) -> Written
-    ensures { result ≡ record { number = number; length = 0 } }
-{
-    Written { number, length: 0 }
-}
 
 // How many digits a number has.
 pub fn digit_count(n: u64) -> usize
@@ -98,15 +87,9 @@ pub fn write_fields(numbers: &[u32], more: usize, room: &mut [u8], from: usize) 
     ensures text { room.new ≡ sets room.old from (fields more numbers.now) }
 {
     let mut at = from;
-    let mut i = 0;
-    while i < numbers.len() {
-        at = write_field(
-            numbers[i] as u64,
-            end_of(numbers.len() - i - 1 + more),
-            room,
-            at,
-        );
-        i += 1;
+    for (i, x) in numbers.iter().enumerate() {
+        let left = numbers.len() - i - 1 + more;
+        at = write_field(*x as u64, end_of(left), room, at);
     }
     at
 }
@@ -118,10 +101,8 @@ pub fn fields_length(numbers: &[u32]) -> usize
     ensures small { result ≤ longest_field * length numbers.now }
 {
     let mut sum = 0;
-    let mut i = 0;
-    while i < numbers.len() {
-        sum += digit_count(numbers[i] as u64) + 1;
-        i += 1;
+    for x in numbers {
+        sum += digit_count(*x as u64) + 1;
     }
     sum
 }
@@ -137,16 +118,16 @@ pub fn write_lettered(letter: u8, numbers: &[u32], room: &mut [u8], at: usize) -
     write_fields(numbers, 0, room, at + 2)
 }
 
-// Writes a refusal's line to the front of the room, and answers its length. A room that is too short is refused with 3, and stays.
-pub fn write_refusal(number: u32, line: u32, room: &mut [u8]) -> Written
-    ensures holds { HoldsRefusal (length room.old) result.number }
-    ensures text { outcome result.number result.length room.new ≡ refusal_written number line room.old }
+// Writes a refusal's line to the front of the room, and answers its length. A room that is too short is refused, and stays.
+pub fn write_refusal(number: u32, line: u32, room: &mut [u8]) -> Result<usize, Refusal>
+    ensures holds { HoldsRefusal (length room.old) (told result) }
+    ensures text { outcome (told result) (granted_or 0 result) room.new ≡ refusal_written number line room.old }
 {
     let numbers = [number, line];
     let length = 2 + fields_length(&numbers);
     if room.len() < length {
-        return refused(3);
+        return Err(Refusal::Room);
     }
     write_lettered(b'R', &numbers, room, 0);
-    Written { number: 0, length }
+    Ok(length)
 }

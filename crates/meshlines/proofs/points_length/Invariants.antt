@@ -1,6 +1,6 @@
 -- `meshlines::points_length` meets its contract.
 use mathlib.Core.Path.{◌≡◌}
-use Prim.Native.Nat.{◌*◌, ◌-◌, ◌≤◌}
+use Prim.Native.Nat.{◌*◌, ◌≤◌}
 use lib.ListN.{length}
 use Rattle.lines.specs.Line.{longest_line, lettered}
 use Rattle.meshlines.specs.MeshLines.{letter_v, point_numbers}
@@ -9,7 +9,4 @@ use Rattle.meshlines.proofs.points_length.Given as goal
 
 abbrev pub invariant-loop-i : goal.invariant-loop-i
 invariant-loop-i l =
-    (l.i ≤ l.v) × (l.sum ≡ length (lines_to (λ i'. lettered letter_v (point_numbers l.points l.edges l.marks i')) l.i)) × (l.sum ≤ longest_line 5 * l.i)
-
-abbrev pub decreases-loop-i : goal.decreases-loop-i
-decreases-loop-i l = l.v - l.i
+    (l.sum ≡ length (lines_to (λ i'. lettered letter_v (point_numbers l.points l.edges l.marks i')) l.i)) × (l.sum ≤ longest_line 5 * l.i)

@@ -9,7 +9,7 @@ use Rattle.meshlines.proofs.LinesWritten.{lines_to, lines_none, lines_length}
 use Rattle.meshlines.proofs.triangles_length.Goals as goal
 
 pub loop-i-init : goal.loop-i-init
-loop-i-init c = (omega arith, sym (ap length (lines_none (λ i. lettered letter_t (triangle_numbers c.args.triangles.now i)))), omega arith)
+loop-i-init c = (sym (ap length (lines_none (λ i. lettered letter_t (triangle_numbers c.args.triangles.now i)))), omega arith)
 
 pub fields_length-requires : goal.fields_length-requires
 fields_length-requires c = omega (arith, ap length c.triangle_numbers-numbers.ensures)
@@ -23,13 +23,12 @@ overflow_add-sum-in-loop-i c = omega (arith, c.fields_length.ensures.small, ap l
 pub loop-i-preserved : goal.loop-i-preserved
 loop-i-preserved c =
     let a = c.args in (
-      omega arith,
-      omega (arith, c.loop-i.invariant.1, c.fields_length.ensures.length, ap (λ n. length (fields 0 n)) c.triangle_numbers-numbers.ensures, lines_length (λ i. lettered letter_t (triangle_numbers a.triangles.now i)) c.loop-i.i, lettered_length letter_t (triangle_numbers a.triangles.now c.loop-i.i)),
-      omega (arith, c.loop-i.invariant.2, c.fields_length.ensures.small, ap length c.triangle_numbers-numbers.ensures),
+      omega (arith, c.loop-i.invariant.0, c.fields_length.ensures.length, ap (λ n. length (fields 0 n)) c.triangle_numbers-numbers.ensures, lines_length (λ i. lettered letter_t (triangle_numbers a.triangles.now i)) c.loop-i.i, lettered_length letter_t (triangle_numbers a.triangles.now c.loop-i.i)),
+      omega (arith, c.loop-i.invariant.1, c.fields_length.ensures.small, ap length c.triangle_numbers-numbers.ensures),
     )
 
 pub returns : goal.returns
 unfolding triangles_text lines_to
 returns c =
     let a = c.args in
-    let e : c.loop-i.i ≡ a.t = omega arith in record { length = c.loop-i.invariant.1 ∙ ap (λ k. length (lines_to (λ i. lettered letter_t (triangle_numbers a.triangles.now i)) k)) e; small = omega arith }
+    let e : c.loop-i.i ≡ a.t = omega arith in record { length = c.loop-i.invariant.0 ∙ ap (λ k. length (lines_to (λ i. lettered letter_t (triangle_numbers a.triangles.now i)) k)) e; small = omega arith }

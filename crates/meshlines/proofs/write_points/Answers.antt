@@ -14,7 +14,7 @@ pub loop-i-init : goal.loop-i-init
 loop-i-init c =
     let a = c.args in
     let z = lines_none (λ i. lettered letter_v (point_numbers a.points.now a.edges.now a.marks.now i)) in
-    (omega arith, refl, omega (arith, ap length z), sym (ap (sets a.room.now a.from) z))
+    (refl, omega (arith, ap length z), sym (ap (sets a.room.now a.from) z))
 
 pub write_lettered-at-requires : goal.write_lettered-at-requires
 unfolding points_text lines_to
@@ -22,7 +22,7 @@ write_lettered-at-requires c =
     let a = c.args in
     let g = point_numbers a.points.now a.edges.now a.marks.now in
     rw c.point_numbers-numbers.ensures
-    (omega (arith, lettered_length letter_v (g c.loop-i.i), lines_length (λ i. lettered letter_v (g i)) c.loop-i.i, lines_rise (λ i. lettered letter_v (g i)) (c.loop-i.i + 1) a.v (omega arith), c.loop-i.invariant.1, c.loop-i.invariant.2, c.requires.v_in_bounds_2))
+    (omega (arith, lettered_length letter_v (g c.loop-i.i), lines_length (λ i. lettered letter_v (g i)) c.loop-i.i, lines_rise (λ i. lettered letter_v (g i)) (c.loop-i.i + 1) a.v (omega arith), c.loop-i.invariant.0, c.loop-i.invariant.1, c.requires.v_in_bounds_2))
 
 pub loop-i-preserved : goal.loop-i-preserved
 loop-i-preserved c =
@@ -30,19 +30,18 @@ loop-i-preserved c =
     let g = point_numbers a.points.now a.edges.now a.marks.now in
     let n = c.point_numbers-numbers.ensures in
     let old = c.loop-i.room in (
-      omega arith,
-      c.write_lettered-at.auto.room ∙ c.loop-i.invariant.1,
-      omega (arith, c.write_lettered-at.ensures.place, ap (λ n. length (lettered letter_v n)) n, lettered_length letter_v (g c.loop-i.i), lines_length (λ i. lettered letter_v (g i)) c.loop-i.i, c.loop-i.invariant.2),
-      lines_written (λ i. lettered letter_v (g i)) a.room.now old c.write_lettered-at.new.room a.from c.loop-i.at c.loop-i.i c.loop-i.invariant.3 c.loop-i.invariant.2
+      c.write_lettered-at.auto.room ∙ c.loop-i.invariant.0,
+      omega (arith, c.write_lettered-at.ensures.place, ap (λ n. length (lettered letter_v n)) n, lettered_length letter_v (g c.loop-i.i), lines_length (λ i. lettered letter_v (g i)) c.loop-i.i, c.loop-i.invariant.1),
+      lines_written (λ i. lettered letter_v (g i)) a.room.now old c.write_lettered-at.new.room a.from c.loop-i.at c.loop-i.i c.loop-i.invariant.2 c.loop-i.invariant.1
           (c.write_lettered-at.ensures.text ∙ ap (λ n. sets old c.loop-i.at (lettered letter_v n)) n),
     )
 
 pub shape_of-room : goal.shape_of-room
-shape_of-room c = c.loop-i.invariant.1
+shape_of-room c = c.loop-i.invariant.0
 
 pub returns : goal.returns
 unfolding points_text lines_to
 returns c =
     let a = c.args in
     let g = point_numbers a.points.now a.edges.now a.marks.now in
-    let e : c.loop-i.i ≡ a.v = omega arith in record { place = c.loop-i.invariant.2 ∙ ap (λ k. a.from + length (lines_to (λ i. lettered letter_v (g i)) k)) e; text = c.loop-i.invariant.3 ∙ ap (λ k. sets a.room.now a.from (lines_to (λ i. lettered letter_v (g i)) k)) e }
+    let e : c.loop-i.i ≡ a.v = omega arith in record { place = c.loop-i.invariant.1 ∙ ap (λ k. a.from + length (lines_to (λ i. lettered letter_v (g i)) k)) e; text = c.loop-i.invariant.2 ∙ ap (λ k. sets a.room.now a.from (lines_to (λ i. lettered letter_v (g i)) k)) e }

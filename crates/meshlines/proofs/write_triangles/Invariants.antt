@@ -1,6 +1,6 @@
 -- `meshlines::write_triangles` meets its contract.
 use mathlib.Core.Path.{◌≡◌}
-use Prim.Native.Nat.{◌+◌, ◌-◌, ◌≤◌}
+use Prim.Native.Nat.{◌+◌}
 use lib.ListN.{length}
 use lib.Seq.{sets}
 use Rattle.lines.specs.Line.{lettered}
@@ -10,8 +10,5 @@ use Rattle.meshlines.proofs.write_triangles.Given as goal
 
 abbrev pub invariant-loop-i : goal.invariant-loop-i
 invariant-loop-i l =
-    (l.i ≤ l.t) × (length l.room ≡ length l.initial.room) × (l.at ≡ l.from + length (lines_to (λ i'. lettered letter_t (triangle_numbers l.triangles i')) l.i))
+    (length l.room ≡ length l.initial.room) × (l.at ≡ l.from + length (lines_to (λ i'. lettered letter_t (triangle_numbers l.triangles i')) l.i))
     × (l.room ≡ sets l.initial.room l.from (lines_to (λ i'. lettered letter_t (triangle_numbers l.triangles i')) l.i))
-
-abbrev pub decreases-loop-i : goal.decreases-loop-i
-decreases-loop-i l = l.t - l.i

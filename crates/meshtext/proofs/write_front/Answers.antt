@@ -29,10 +29,9 @@ overflow_add-length c =
 
 pub returns-then-room-length : goal.returns-then-room-length
 returns-then-room-length c =
-    let e = c.refused.ensures in
     let long : length (text (goal.at.returns-then-room-length c).Start) ≡ c.front_length-length.result = sym c.front_length-length.ensures.length in (
       λ l t. absurd (omega (arith, l, c.if-room-length.true, c.front_length-length.ensures.small, c.requires.2)),
-      rw e (front_refused (text (goal.at.returns-then-room-length c).Start) c.args.room.now c.args.more (omega (arith, c.if-room-length.true, long))),
+      front_refused (text (goal.at.returns-then-room-length c).Start) c.args.room.now c.args.more (omega (arith, c.if-room-length.true, long)),
     )
 
 pub returns : goal.returns

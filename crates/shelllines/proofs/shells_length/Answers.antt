@@ -8,14 +8,12 @@ use Rattle.shelllines.proofs.shells_length.Goals as goal
 
 pub loop-n-init : goal.loop-n-init
 loop-n-init c = record {
-  within = omega arith;
   so_far = sym (ap length (shells_none (λ k. get_or c.args.records.now k none)));
   small = omega arith;
 }
 
 pub loop-n-preserved : goal.loop-n-preserved
 loop-n-preserved c = record {
-  within = omega arith;
   so_far = omega (arith, c.loop-n.invariant.so_far, c.shell_length-sum.ensures.0, shells_length (λ k. get_or c.args.records.now k none) c.loop-n.n);
   small = omega (arith, c.loop-n.invariant.small, c.shell_length-sum.ensures.1);
 }

@@ -11,7 +11,7 @@ use Rattle.shelllines.proofs.write_shells.Goals as goal
 pub loop-n-init : goal.loop-n-init
 loop-n-init c =
     let z = shells_none (λ k. get_or c.args.records.now k none) in
-    record { within = omega arith; long = refl; place = omega (arith, ap length z); written = sym (ap (sets c.args.room.now c.args.from) z) }
+    record { long = refl; place = omega (arith, ap length z); written = sym (ap (sets c.args.room.now c.args.from) z) }
 
 pub write_shell-at-requires : goal.write_shell-at-requires
 write_shell-at-requires c =
@@ -22,7 +22,6 @@ pub loop-n-preserved : goal.loop-n-preserved
 loop-n-preserved c =
     let r = λ (k : ℕ). get_or c.args.records.now k none in
     let i = c.loop-n.invariant in record {
-      within = omega arith;
       long = c.write_shell-at.auto.room ∙ i.long;
       place = omega (arith, i.place, c.write_shell-at.ensures.0, shells_length r c.loop-n.n);
       written = shells_written r c.args.room.now c.loop-n.room c.write_shell-at.new.room c.args.from c.loop-n.at c.loop-n.n i.written i.place c.write_shell-at.ensures.1;

@@ -1,6 +1,6 @@
 -- `shelllines::write_shells` meets its contract.
 use mathlib.Core.Path.{◌≡◌}
-use Prim.Native.Nat.{◌+◌, ◌-◌, ◌≤◌}
+use Prim.Native.Nat.{◌+◌}
 use lib.ListN.{length, get_or}
 use lib.Seq.{sets}
 use Rattle.records.specs.Grown.{none}
@@ -9,11 +9,7 @@ use Rattle.shelllines.proofs.write_shells.Given as goal
 
 abbrev pub invariant-loop-n : goal.invariant-loop-n
 invariant-loop-n l = record {
-  within : l.n ≤ l.shells;
   long : length l.room ≡ length l.fn.room;
   place : l.at ≡ l.from + length (shells_text l.n (λ k. get_or l.records k none));
   written : l.room ≡ sets l.fn.room l.from (shells_text l.n (λ k. get_or l.records k none));
 }
-
-abbrev pub decreases-loop-n : goal.decreases-loop-n
-decreases-loop-n l = l.shells - l.n

@@ -16,8 +16,7 @@ returns-then-room-length c =
     let a = c.args in
     let ns = a.number ∷ a.line ∷ [] in record {
       holds = λ l e. absurd (omega (arith, l, c.fields_length-length.ensures.small, c.if-room-length.true));
-      text = rw c.refused.ensures
-          (written_not (lettered letter_r ns) a.room.now (omega (arith, c.fields_length-length.ensures.length, lettered_length letter_r ns, c.if-room-length.true)));
+      text = written_not (lettered letter_r ns) a.room.now (omega (arith, c.fields_length-length.ensures.length, lettered_length letter_r ns, c.if-room-length.true));
     }
 
 pub write_lettered-requires : goal.write_lettered-requires
