@@ -1,5 +1,6 @@
 -- The refusals by their numbers (document 01, "Numbers that refuse", and document 02), and what an answer says as numbers.
 use Rattle.std.specs.Prelude.{ℕ, Result, Ok, Err}
+use Rattle.std.specs.Result.{result_unwrap_or}
 use Rattle.grid.specs.declared.refusal.Refusal.{Refusal}
 use Rattle.grid.specs.declared.refusal.Refusal.TheVariants.{Side, Samples, Room, Points, Triangles, Lengths, Corners, Coordinates, Marks, Smoothing, Shells, GridLine, Small, Beyond, MeshLine, OtherShells, Layer, Closing, Summary}
 
@@ -31,5 +32,4 @@ told (Err e) = number_of e
 
 -- what is answered if granted, else what stands for nothing
 abbrev pub granted_or : {A : Type 0} → A → Result A Refusal → A
-granted_or none (Ok a) = a
-granted_or none (Err e) = none
+granted_or none r = result_unwrap_or r none

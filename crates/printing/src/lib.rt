@@ -4,6 +4,7 @@
 
 ghost use Rattle.std.specs.Prelude.{◌≤◌, length, take};
 ghost use Rattle.grid.specs.Limits.{most_rounds, most_weight};
+ghost use Rattle.grid.specs.Refusal.{told, granted_or};
 ghost use Rattle.printing.specs.Prints.{after_rounds, Prints};
 ghost use Rattle.printing.specs.SmallMesh.{mesh_of, SmallMesh};
 ghost use Rattle.printing.specs.Listed.{ListsAndWrites};
@@ -11,8 +12,8 @@ ghost use Rattle.writing.specs.Writing.{outcome};
 
 pub mod zeros;
 
-use writing::Written;
-use zeros::MOST_SMALL_POINTS;
+use grid::refusal::Refusal;
+use zeros::{MOST_LISTING, MOST_SMALL_COORDINATES, MOST_SMALL_POINTS, MOST_SMOOTHING};
 
 // Lists the shells of a mesh into an array of records, and writes its text with them. This is the only function here that holds records in a list: whatever calls
 // it meets plain numbers.
@@ -24,8 +25,8 @@ fn write_records(
     numbers: &mut [u32],
     work: &mut [u32],
     output: &mut [u8],
-) -> Written
-    ensures { let after = outcome result.number result.length output.new in
+) -> Result<usize, Refusal>
+    ensures { let after = outcome (told result) (granted_or 0 result) output.new in
         ListsAndWrites points.now edges.now marks.now triangles.now numbers.old work.old output.old
         numbers.new work.new after }
 {
@@ -55,9 +56,9 @@ fn write_listed(
     ensures text { Prints (mesh_of points.now triangles.now marks.now) edges.now (take result output.new) }
 {
     let v = marks.len();
-    let mut numbers = zeros::numbers();
-    let mut work = zeros::listing();
-    let written = write_records(
+    let mut numbers: [u32; MOST_SMALL_POINTS] = zeros::room(0);
+    let mut work: [u32; MOST_LISTING] = zeros::room(0);
+    write_records(
         points,
         edges,
         marks,
@@ -65,8 +66,8 @@ fn write_listed(
         &mut numbers[..v],
         &mut work[..2 * v],
         output,
-    );
-    written.length
+    )
+    .unwrap_or(0)
 }
 
 // Smooths a mesh and writes its text.
@@ -87,8 +88,8 @@ pub fn write_smoothed(
 {
     let v = marks.len();
     let t = triangles.len() / 3;
-    let mut smoothed = zeros::places();
-    let mut work = zeros::smoothing();
+    let mut smoothed: [u32; MOST_SMALL_COORDINATES] = zeros::room(0);
+    let mut work: [u32; MOST_SMOOTHING] = zeros::room(0);
     smooth::smooth(
         points,
         triangles,

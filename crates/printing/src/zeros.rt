@@ -1,7 +1,5 @@
-// Rooms of zeros, sized for the greatest numbers of a small grid. Each is made by a function that promises no more than its length: a lent room needs nothing else, and a proof
-// that meets the zeros themselves counts them one by one.
-ghost use Rattle.std.specs.Prelude.{◌≡◌, ◌+◌, ◌*◌, length};
-ghost use Rattle.printing.specs.Sizes.{most_small_points, most_small_triangles, most_input, most_output};
+// Rooms of zeros, and the sizes that the greatest numbers of a small grid need.
+ghost use Rattle.std.specs.Prelude.{◌≡◌, length};
 
 use cube::MOST_CASE_TRIANGLES;
 use grid::limits::{LONGEST_NUMBER, MOST_SMALL, NUMBER_DIGITS, WORD_DIGITS};
@@ -32,55 +30,19 @@ pub const MOST_OUTPUT: usize = LINE_OF_THREE
     + LINE_OF_THREE * MOST_SMALL_TRIANGLES
     + LONGEST_SHELL * MOST_SMALL_POINTS;
 
-pub fn input() -> [u8; MOST_INPUT]
-    ensures { most_input ≡ length result }
-{
-    [0; MOST_INPUT]
-}
+// Three coordinates a point, and three points a triangle.
+pub const MOST_SMALL_COORDINATES: usize = 3 * MOST_SMALL_POINTS;
 
-pub fn output() -> [u8; MOST_OUTPUT]
-    ensures { most_output ≡ length result }
-{
-    [0; MOST_OUTPUT]
-}
+pub const MOST_SMALL_CORNERS: usize = 3 * MOST_SMALL_TRIANGLES;
 
-// A number a point.
-pub fn numbers() -> [u32; MOST_SMALL_POINTS]
-    ensures { most_small_points ≡ length result }
-{
-    [0; MOST_SMALL_POINTS]
-}
+// The work rooms of smoothing and of the shells.
+pub const MOST_SMOOTHING: usize = 6 * MOST_SMALL_TRIANGLES + 5 * MOST_SMALL_POINTS + 1;
 
-pub fn marks() -> [u8; MOST_SMALL_POINTS]
-    ensures { most_small_points ≡ length result }
-{
-    [0; MOST_SMALL_POINTS]
-}
+pub const MOST_LISTING: usize = 2 * MOST_SMALL_POINTS;
 
-// Three coordinates a point.
-pub fn places() -> [u32; 3 * MOST_SMALL_POINTS]
-    ensures { 3 * most_small_points ≡ length result }
+// A room of so many zeros. It promises no more than its length: a lent room needs nothing else, and a proof that meets the zeros themselves counts them one by one.
+pub fn room<T: Copy, const N: usize>(zero: T) -> [T; N]
+    ensures { length result ≡ N }
 {
-    [0; 3 * MOST_SMALL_POINTS]
-}
-
-// Three points a triangle.
-pub fn triangles() -> [u32; 3 * MOST_SMALL_TRIANGLES]
-    ensures { 3 * most_small_triangles ≡ length result }
-{
-    [0; 3 * MOST_SMALL_TRIANGLES]
-}
-
-// The work room of smoothing.
-pub fn smoothing() -> [u32; 6 * MOST_SMALL_TRIANGLES + 5 * MOST_SMALL_POINTS + 1]
-    ensures { 6 * most_small_triangles + 5 * most_small_points + 1 ≡ length result }
-{
-    [0; 6 * MOST_SMALL_TRIANGLES + 5 * MOST_SMALL_POINTS + 1]
-}
-
-// The work room of the shells.
-pub fn listing() -> [u32; 2 * MOST_SMALL_POINTS]
-    ensures { 2 * most_small_points ≡ length result }
-{
-    [0; 2 * MOST_SMALL_POINTS]
+    [zero; N]
 }

@@ -6,23 +6,23 @@ use lib.ListN.{length, take}
 use lib.Seq.{length-take-le}
 use Rattle.printing.proofs.Listed.{mesh_printed}
 use Rattle.printing.proofs.write_listed.Goals as goal
-use Rattle.printing.proofs.write_listed.Goals.{After-listing-work, After-numbers-numbers}
+use Rattle.printing.proofs.write_listed.Goals.{After-room-work, After-room-numbers}
 
 -- a room for each point's number, and one for twice as many
-whole : (c : After-numbers-numbers) → length (take (length c.args.marks.now) c.numbers-numbers.result) ≡ length c.args.marks.now
+whole : (c : After-room-numbers) → length (take (length c.args.marks.now) c.room-numbers.result) ≡ length c.args.marks.now
 whole c =
-    length-take-le (length c.args.marks.now) c.numbers-numbers.result (omega (arith, c.numbers-numbers.ensures, c.requires.few_points))
+    length-take-le (length c.args.marks.now) c.room-numbers.result (omega (arith, c.room-numbers.ensures, c.requires.few_points))
 
-twice : (c : After-listing-work) → length (take (2 * length c.args.marks.now) c.listing-work.result) ≡ 2 * length c.args.marks.now
+twice : (c : After-room-work) → length (take (2 * length c.args.marks.now) c.room-work.result) ≡ 2 * length c.args.marks.now
 twice c =
-    length-take-le (2 * length c.args.marks.now) c.listing-work.result (omega (arith, c.listing-work.ensures, c.requires.few_points))
+    length-take-le (2 * length c.args.marks.now) c.room-work.result (omega (arith, c.room-work.ensures, c.requires.few_points))
 
 pub slice_bounds-write_records-end : goal.slice_bounds-write_records-end
-slice_bounds-write_records-end c = sym (whole (goal.at.slice_bounds-write_records-end c).After-numbers-numbers)
+slice_bounds-write_records-end c = sym (whole (goal.at.slice_bounds-write_records-end c).After-room-numbers)
 
 pub slice_bounds-write_records-end-2 : goal.slice_bounds-write_records-end-2
-slice_bounds-write_records-end-2 c = sym (twice (goal.at.slice_bounds-write_records-end-2 c).After-listing-work)
+slice_bounds-write_records-end-2 c = sym (twice (goal.at.slice_bounds-write_records-end-2 c).After-room-work)
 
 pub returns : goal.returns
 returns c =
-    let both = mesh_printed _ _ _ _ _ _ _ _ _ c.requires (whole (goal.at.returns c).After-numbers-numbers) (twice (goal.at.returns c).After-listing-work) _ c.write_records-written.ensures in record { inside = both.0; text = both.1 }
+    let both = mesh_printed _ _ _ _ _ _ _ _ _ c.requires (whole (goal.at.returns c).After-room-numbers) (twice (goal.at.returns c).After-room-work) _ c.write_records.ensures in rw c.unwrap_or.ensures (record { inside = both.0; text = both.1 })

@@ -12,16 +12,16 @@ use Rattle.printing.specs.Prints.{after_rounds, Prints}
 use Rattle.printing.specs.SmallMesh.{mesh_of}
 use Rattle.printing.proofs.Smoothing.{smooth_granted}
 use Rattle.printing.proofs.write_smoothed.Goals as goal
-use Rattle.printing.proofs.write_smoothed.Goals.{After-places-smoothed, After-smooth, After-smoothing-work}
+use Rattle.printing.proofs.write_smoothed.Goals.{After-room-smoothed, After-smooth, After-room-work}
 
 pub slice_bounds-smooth-end : goal.slice_bounds-smooth-end
 slice_bounds-smooth-end c =
-    sym (length-take-le (3 * length c.args.marks.now) c.places-smoothed.result (omega (arith, c.places-smoothed.ensures, c.requires.small_mesh.few_points)))
+    sym (length-take-le (3 * length c.args.marks.now) c.room-smoothed.result (omega (arith, c.room-smoothed.ensures, c.requires.small_mesh.few_points)))
 
 pub slice_bounds-smooth-end-2 : goal.slice_bounds-smooth-end-2
 slice_bounds-smooth-end-2 c =
-    sym (length-take-le (6 * (length c.args.triangles.now / 3) + 5 * length c.args.marks.now + 1) c.smoothing-work.result
-    (omega (arith, c.smoothing-work.ensures, c.requires.small_mesh.few_points, c.requires.small_mesh.few_triangles)))
+    sym (length-take-le (6 * (length c.args.triangles.now / 3) + 5 * length c.args.marks.now + 1) c.room-work.result
+    (omega (arith, c.room-work.ensures, c.requires.small_mesh.few_points, c.requires.small_mesh.few_triangles)))
 
 -- the smoothed points are read again from the front of their room
 module _ (c : After-smooth) where
@@ -32,31 +32,31 @@ module _ (c : After-smooth) where
   moved = rounds (triangles_of c.args.triangles.now) c.args.marks.now c.args.weight c.args.rounds c.args.points.now
 
   -- a room for the second points, and the work room
-  second : length (take (3 * length c.args.marks.now) c.places-smoothed.result) ≡ 3 * length c.args.marks.now
-  second = length-take-le (3 * length c.args.marks.now) c.places-smoothed.result (omega (arith, c.places-smoothed.ensures, c.requires.small_mesh.few_points))
+  second : length (take (3 * length c.args.marks.now) c.room-smoothed.result) ≡ 3 * length c.args.marks.now
+  second = length-take-le (3 * length c.args.marks.now) c.room-smoothed.result (omega (arith, c.room-smoothed.ensures, c.requires.small_mesh.few_points))
 
-  working : let many = 6 * (length c.args.triangles.now / 3) + 5 * length c.args.marks.now + 1 in length (take many c.smoothing-work.result) ≡ many
+  working : let many = 6 * (length c.args.triangles.now / 3) + 5 * length c.args.marks.now + 1 in length (take many c.room-work.result) ≡ many
   working =
-      length-take-le (6 * (length c.args.triangles.now / 3) + 5 * length c.args.marks.now + 1) c.smoothing-work.result
-      (omega (arith, c.smoothing-work.ensures, c.requires.small_mesh.few_points, c.requires.small_mesh.few_triangles))
+      length-take-le (6 * (length c.args.triangles.now / 3) + 5 * length c.args.marks.now + 1) c.room-work.result
+      (omega (arith, c.room-work.ensures, c.requires.small_mesh.few_points, c.requires.small_mesh.few_triangles))
 
   long : length exit ≡ 3 * length c.args.marks.now
   long = c.smooth.auto.smoothed ∙ second
 
-  front : take (3 * length c.args.marks.now) (exit ++ drop (3 * length c.args.marks.now) c.places-smoothed.result) ≡ moved
+  front : take (3 * length c.args.marks.now) (exit ++ drop (3 * length c.args.marks.now) c.room-smoothed.result) ≡ moved
   front =
       let a = c.args in
-      take_at exit (drop (3 * length a.marks.now) c.places-smoothed.result) (3 * length a.marks.now) long
+      take_at exit (drop (3 * length a.marks.now) c.room-smoothed.result) (3 * length a.marks.now) long
       ∙ (ap (λ o. o.second) c.smooth.ensures
       ∙ smooth_granted a.points.now a.triangles.now a.marks.now a.rounds a.weight _ _ c.requires.small_mesh.passes c.requires.rounds_le_most_rounds.0 c.requires.rounds_le_most_rounds.1 second working)
 
 pub slice_bounds-smoothed-end-2 : goal.slice_bounds-smoothed-end-2
 slice_bounds-smoothed-end-2 c =
-    omega (arith, length-append (exit (goal.at.slice_bounds-smoothed-end-2 c).After-smooth) (drop (3 * length c.args.marks.now) c.places-smoothed.result), long (goal.at.slice_bounds-smoothed-end-2 c).After-smooth)
+    omega (arith, length-append (exit (goal.at.slice_bounds-smoothed-end-2 c).After-smooth) (drop (3 * length c.args.marks.now) c.room-smoothed.result), long (goal.at.slice_bounds-smoothed-end-2 c).After-smooth)
 
 pub slice_bounds-write_listed-end : goal.slice_bounds-write_listed-end
 slice_bounds-write_listed-end c =
-    sym (ap length (take_at (exit (goal.at.slice_bounds-write_listed-end c).After-smooth) (drop (3 * length c.args.marks.now) c.places-smoothed.result) (3 * length c.args.marks.now) (long (goal.at.slice_bounds-write_listed-end c).After-smooth)) ∙ long (goal.at.slice_bounds-write_listed-end c).After-smooth)
+    sym (ap length (take_at (exit (goal.at.slice_bounds-write_listed-end c).After-smooth) (drop (3 * length c.args.marks.now) c.room-smoothed.result) (3 * length c.args.marks.now) (long (goal.at.slice_bounds-write_listed-end c).After-smooth)) ∙ long (goal.at.slice_bounds-write_listed-end c).After-smooth)
 
 pub write_listed-requires : goal.write_listed-requires
 write_listed-requires c =
