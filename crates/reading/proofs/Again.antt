@@ -1,18 +1,15 @@
 -- Lines that were read, read once more by a loop: each is there, and says what it said.
 use mathlib.Core.Path.{◌≡◌, refl, ap, sym, ◌∙◌}
 use mathlib.Core.List.{List, ◌∷◌}
-use mathlib.Core.Bool.{Bool, true, false}
 use Prim.Native.Nat.{ℕ, zero, suc, ◌+◌, ◌-◌, ◌≤◌, ◌<◌}
 use native.Mathlib.Omega.{arith}
 use lib.ListN.{length, get_or, drop}
 use lib.Seq.{get_or-drop, drop-drop}
-use Rattle.reading.specs.Reading.{Got, got}
+use Rattle.reading.specs.Reading.{Got, bad, got}
 use Rattle.reading.specs.Lined.{lined, following, read_line, read_lines}
-use Rattle.reading.specs.Answers.{got_at}
 use Rattle.reading.proofs.Digits.{never}
 use Rattle.reading.proofs.Exact.{got_value, got_rest}
 use Rattle.reading.proofs.Following.{earlier, line_got, lined_value, lined_rest}
-use Rattle.reading.proofs.Places.{got_not, got_is}
 
 module _ {A : Type 0} (one : ℕ → List ℕ → Got A) (next : A → ℕ) where
   -- the first of some lines, and the others
@@ -65,24 +62,20 @@ module _ {A : Type 0} (one : ℕ → List ℕ → Got A) (next : A → ℕ) wher
           let e : count - n ≡ suc (count - (n + 1)) = omega arith in
           first_line (count - (n + 1)) bound g.line (drop at input) (drop n said) g.behind (rw e at g.left)
 
-      -- what a reader of the line answers
-      module _ (ok : Bool) (a : A) (place : ℕ) (h : one bound (drop at input) ≡ got_at input ok a place) where
-        pub again_answer : one bound (drop at input) ≡ got a (drop place input)
-        again_answer = go ok refl
-          where
-            go : (b : Bool) → ok ≡ b → one bound (drop at input) ≡ got a (drop place input)
-            go true e = got_is input ok a place h e
-            go false e = never (sym (got_not input ok a place h e) ∙ found.here)
+      pub again_there : one bound (drop at input) ≡ bad → ⊥
+      again_there e = never (sym e ∙ found.here)
 
+      -- what a reader of the line answers
+      module _ (a : A) (place : ℕ) (h : one bound (drop at input) ≡ got a (drop place input)) where
         pub again_said : get_or said n d ≡ a
         again_said =
             let z : n + 0 ≡ n = omega arith in
-            ap (λ i. get_or said i d) (sym z) ∙ sym (get_or-drop n said 0 d) ∙ ap (λ xs. get_or xs 0 d) found.split ∙ got_value (sym found.here ∙ again_answer)
+            ap (λ i. get_or said i d) (sym z) ∙ sym (get_or-drop n said 0 d) ∙ ap (λ xs. get_or xs 0 d) found.split ∙ got_value (sym found.here ∙ h)
 
         pub again_next : Again (n + 1) place (next a)
         again_next =
-            let r : found.more ≡ drop place input = got_rest (sym found.here ∙ again_answer) in
-            let w : found.first ≡ a = got_value (sym found.here ∙ again_answer) in
+            let r : found.more ≡ drop place input = got_rest (sym found.here ∙ h) in
+            let w : found.first ≡ a = got_value (sym found.here ∙ h) in
             let s : drop (n + 1) said ≡ found.others = sym (drop-drop 1 n said) ∙ ap (drop 1) found.split in
             record {
               few = omega (arith, less);

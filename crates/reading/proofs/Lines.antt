@@ -104,11 +104,11 @@ module _ (most width count i : ℕ) (ns bs : List ℕ) where
         let g : i + 1 + 2 ≡ i + 2 + 1 = omega arith in
         rw (e, f, g, first_read most width (count - i - 1) (i + 2) bs ms rest h) (ahead_ahead ns ms (read_rows most width (count - i - 1) (i + 2 + 1) rest))
 
-  pub rows_over : i ≡ count → (b : ℕ) (rest : List ℕ) → bs ≡ b ∷ rest → ahead ns (read_rows most width (count - i) (i + 2) bs) ≡ malformed (i + 2)
+  pub rows_over : i ≡ count → (b : ℕ) (rest : List ℕ) → bs ≡ b ∷ rest → ahead ns (read_rows most width (count - i) (i + 2) bs) ≡ malformed (count + 2)
   unfolding ahead read_rows
   rows_over q b rest h =
-      let e : count - i ≡ 0 = omega arith in
-      rw (e, h)
+      let e : count - count ≡ 0 = omega arith in
+      rw (q, e, h)
 
   pub rows_done : i ≡ count → bs ≡ [] → ahead ns (read_rows most width (count - i) (i + 2) bs) ≡ rows ns
   unfolding ahead read_rows

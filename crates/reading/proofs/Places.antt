@@ -1,49 +1,31 @@
 -- What is read at a place of an input, by the byte that stands there.
 use mathlib.Core.Path.{◌≡◌}
 use mathlib.Core.List.{List, []}
-use mathlib.Core.Bool.{Bool, true, false}
+use mathlib.Core.Bool.{true, false}
+use Rattle.std.specs.Prelude.{Some, None}
 use Prim.Native.Nat.{ℕ, ◌+◌, ◌*◌, ◌-◌, ◌≤◌, ◌<◌}
 use native.Mathlib.Omega.{arith}
 use borrow.Author.Tests.{eq-eqb, ne_eqb}
 use lib.ListN.{length, get_or, drop, drop_of_length-le}
 use Rattle.lines.specs.Decimal.{digit_zero, is_digit}
 use Rattle.reading.specs.Reading.{Got, bad, got, digits_on, read_number, after, ended_by, read_field}
-use Rattle.reading.specs.Answers.{got_at, Reads, answered_line}
-use Rattle.reading.specs.declared.Field.{Field}
-use Rattle.reading.specs.declared.Line.{Line}
+use Rattle.reading.specs.Answers.{ReadsTo}
 use Rattle.lines.proofs.Bytes.{byte_at}
 use Rattle.reading.proofs.Digits.{digits_stop, digits_over, digits_next, digits_done, number_empty, number_zero, number_none, number_starts}
 
--- nothing was read, and so it is answered
-pub reads_nothing : {input : List ℕ} {most : ℕ} {read : Got ℕ} {r : Field} → (r.ok ≡ false) × (r.value ≡ 0) × (r.next ≡ 0) → read ≡ bad → Reads input most read r
-unfolding got_at
-reads_nothing n e = record { same = rw n.0 e; within = omega arith; inside = omega arith }
+-- nothing was read, and so it is answered; or a value was, and the place behind it is
+module _ {A : Type 0} {size : A → ℕ} {input : List ℕ} {most : ℕ} {read : Got A} where
+  pub reads_nothing : read ≡ bad → ReadsTo size input most read None
+  reads_nothing e = record { same = e; within = tt; inside = tt }
 
--- what was read, by the answer
-module _ {A : Type 0} {read : Got A} (input : List ℕ) (ok : Bool) (a : A) (next : ℕ) (h : read ≡ got_at input ok a next) where
-  pub got_not : ok ≡ false → read ≡ bad
-  unfolding got_at
-  got_not e = rw e at h
-
-  pub got_is : ok ≡ true → read ≡ got a (drop next input)
-  unfolding got_at
-  got_is e = rw e at h
-
-pub read_not : {input : List ℕ} {most : ℕ} {read : Got ℕ} {r : Field} → Reads input most read r → r.ok ≡ false → read ≡ bad
-read_not {input = input} {r = r} h e = got_not input r.ok r.value r.next h.same e
-
-pub read_is : {input : List ℕ} {most : ℕ} {read : Got ℕ} {r : Field} → Reads input most read r → r.ok ≡ true → read ≡ got r.value (drop r.next input)
-read_is {input = input} {r = r} h e = got_is input r.ok r.value r.next h.same e
-
-pub line_not : (input ns : List ℕ) (r : Line) {read : Got (List ℕ)} → read ≡ answered_line input r ns → r.ok ≡ false → read ≡ bad
-line_not input ns r h e = got_not input r.ok ns r.next h e
-
-pub line_is : (input ns : List ℕ) (r : Line) {read : Got (List ℕ)} → read ≡ answered_line input r ns → r.ok ≡ true → read ≡ got ns (drop r.next input)
-line_is input ns r h e = got_is input r.ok ns r.next h e
+  pub reads : (v : A) (next : ℕ) → read ≡ got v (drop next input) → size v ≤ most → next ≤ length input → ReadsTo size input most read (Some (v, next))
+  reads v next e w i = record { same = e; within = w; inside = i }
 
 module _ (most v : ℕ) (input : List ℕ) (at : ℕ) where
-  pub digits_end_at : length input ≤ at → digits_on most v (drop at input) ≡ got v (drop at input)
-  digits_end_at l = rw (drop_of_length-le input l) (digits_done most v [] tt)
+  pub digits_end_at : length input ≤ at → digits_on most v (drop at input) ≡ got v (drop (length input) input)
+  digits_end_at l =
+      let m : length input ≤ length input = omega arith in
+      rw (drop_of_length-le input l, drop_of_length-le input m) (digits_done most v [] tt)
 
   module _ (l : at < length input) where
     pub digits_stop_at : is_digit (get_or input at 0) ≡ false → digits_on most v (drop at input) ≡ got v (drop at input)
@@ -72,11 +54,11 @@ module _ (most : ℕ) (input : List ℕ) (at : ℕ) where
       number_starts_at h = rw (byte_at input at l) (number_starts most (get_or input at 0) (drop (at + 1) input) ne h)
 
 -- a number and the byte behind it
-module _ (most end v at : ℕ) (input bs : List ℕ) where
-  pub field_none : read_number most bs ≡ bad → read_field most end bs ≡ bad
-  unfolding read_field after
-  field_none e = rw e
+pub field_none : (most end : ℕ) (bs : List ℕ) → read_number most bs ≡ bad → read_field most end bs ≡ bad
+unfolding read_field after
+field_none most end bs e = rw e
 
+module _ (most end v at : ℕ) (input bs : List ℕ) where
   module _ (e : read_number most bs ≡ got v (drop at input)) where
     pub field_end_at : length input ≤ at → read_field most end bs ≡ bad
     unfolding read_field after ended_by

@@ -11,16 +11,9 @@ use borrow.Author.Tests.{eq-eqb, ne_eqb, lt-ltb}
 use Rattle.lines.specs.Decimal.{minus_sign}
 use Rattle.lines.proofs.Bytes.{byte_at}
 use Rattle.reading.specs.Reading.{Got, bad, got, after, read_number, negated, read_signed, ended_by, read_field, read_signed_field}
-use Rattle.reading.specs.Answers.{got_at, ReadsSigned}
-use Rattle.reading.specs.declared.Signed.{Signed}
-
--- nothing was read, and so it is answered
-pub signed_nothing : {input : List ℕ} {most : ℕ} {read : Got ℤ} {r : Signed} → r ≡ record { ok = false; value = pos 0; next = 0 } → read ≡ bad → ReadsSigned input most read r
-unfolding got_at
-signed_nothing n e = rw n (record { same = e; within = omega arith; inside = omega arith })
 
 -- a number with no sign
-abbrev plainly : ℕ → List ℕ → Got ℤ
+abbrev pub plainly : ℕ → List ℕ → Got ℤ
 plainly n rest = got (pos n) rest
 
 -- the byte behind a number stands there whatever its sign
@@ -59,43 +52,22 @@ module _ (most end b : ℕ) (bs : List ℕ) where
   unfolding read_signed_field read_signed read_field
   minus_field q = rw (eq-eqb b minus_sign q) (ended_minus end (read_number most bs))
 
--- the answer with its sign
-module _ (input : List ℕ) (next : ℕ) where
-  plain_got : (ok : Bool) (v : ℕ) → after plainly (got_at input ok v next) ≡ got_at input ok (pos v) next
-  unfolding after got_at
-  plain_got true v = refl
-  plain_got false v = refl
-
-  zero_got : (ok : Bool) (v : ℕ) → v ≡ 0 → after negated (got_at input ok v next) ≡ bad
-  unfolding after got_at negated
-  zero_got true v z = rw z
-  zero_got false v z = refl
-
-  minus_got : (ok : Bool) (v : ℕ) → (v ≡ 0 → ⊥) → after negated (got_at input ok v next) ≡ got_at input ok (pos 0 -ℤ pos v) next
-  unfolding after got_at negated
-  minus_got ok zero ne = absurd (ne refl)
-  minus_got true (suc v) ne =
-      let e : suc v - 1 ≡ v = omega arith in
-      rw (lt-ltb 0 (suc v) (omega arith), e)
-  minus_got false (suc v) ne = refl
+-- a size that is not 0, negated
+pub negated_got : (v : ℕ) (rest : List ℕ) → (v ≡ 0 → ⊥) → negated v rest ≡ got (pos 0 -ℤ pos v) rest
+unfolding negated
+negated_got zero rest ne = absurd (ne refl)
+negated_got (suc v) rest ne =
+    let e : suc v - 1 ≡ v = omega arith in
+    rw (lt-ltb 0 (suc v) (omega arith), e)
 
 module _ (most end : ℕ) (input : List ℕ) (at : ℕ) where
   pub signed_end_at : length input ≤ at → read_signed_field most end (drop at input) ≡ bad
   unfolding read_signed_field read_signed after
   signed_end_at l = rw (drop_of_length-le input l)
 
-  module _ (l : at < length input) (ok : Bool) (v next : ℕ) where
-    pub signed_plain_at : (get_or input at 0 ≡ minus_sign → ⊥) → read_field most end (drop at input) ≡ got_at input ok v next → read_signed_field most end (drop at input) ≡ got_at input ok (pos v) next
-    signed_plain_at ne e =
-        ap (read_signed_field most end) (byte_at input at l) ∙ plain_field most end (get_or input at 0) (drop (at + 1) input) ne
-        ∙ ap (after plainly) (rw (byte_at input at l) at e) ∙ plain_got input next ok v
+  module _ (l : at < length input) where
+    pub plain_at : (get_or input at 0 ≡ minus_sign → ⊥) → read_signed_field most end (drop at input) ≡ after plainly (read_field most end (drop at input))
+    plain_at ne = rw (byte_at input at l) (plain_field most end (get_or input at 0) (drop (at + 1) input) ne)
 
-    module _ (q : get_or input at 0 ≡ minus_sign) (e : read_field most end (drop (at + 1) input) ≡ got_at input ok v next) where
-      minus_at : read_signed_field most end (drop at input) ≡ after negated (got_at input ok v next)
-      minus_at = ap (read_signed_field most end) (byte_at input at l) ∙ minus_field most end (get_or input at 0) (drop (at + 1) input) q ∙ ap (after negated) e
-
-      pub signed_zero_at : v ≡ 0 → read_signed_field most end (drop at input) ≡ bad
-      signed_zero_at z = minus_at ∙ zero_got input next ok v z
-
-      pub signed_minus_at : (v ≡ 0 → ⊥) → read_signed_field most end (drop at input) ≡ got_at input ok (pos 0 -ℤ pos v) next
-      signed_minus_at ne = minus_at ∙ minus_got input next ok v ne
+    pub minus_at : get_or input at 0 ≡ minus_sign → read_signed_field most end (drop at input) ≡ after negated (read_field most end (drop (at + 1) input))
+    minus_at q = ap (read_signed_field most end) (byte_at input at l) ∙ minus_field most end (get_or input at 0) (drop (at + 1) input) q

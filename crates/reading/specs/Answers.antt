@@ -1,37 +1,31 @@
 -- How the reading functions answer, at a place of a whole input.
-use Rattle.std.specs.Prelude.{◌≡◌, List, Bool, cond, ℕ, ◌≤◌, eqb, ℤ, nat_abs, length, drop}
+use Rattle.std.specs.Prelude.{◌≡◌, List, ℕ, ◌≤◌, ℤ, nat_abs, length, drop, Option, Some, None, Result, Ok, Err, IfSome}
 use Rattle.reading.specs.Reading.{Got, bad, got, GotRows, malformed, rows}
-use Rattle.reading.specs.declared.Field.{Field}
-use Rattle.reading.specs.declared.Signed.{Signed}
-use Rattle.reading.specs.declared.Line.{Line}
 
 -- what was read, and the place behind it; or nothing
-unfoldable pub got_at : {A : Type 0} → List ℕ → Bool → A → ℕ → Got A
-got_at input ok a next = cond ok (got a (drop next input)) bad
+abbrev pub answered : {A : Type 0} → List ℕ → Option (A × ℕ) → Got A
+answered input None = bad
+answered input (Some r) = got r.0 (drop r.1 input)
 
--- a number
-abbrev pub answered : List ℕ → Field → Got ℕ
-answered input r = got_at input r.ok r.value r.next
-
--- the answer says what was read
-pub record Reads (input : List ℕ) (most : ℕ) (read : Got ℕ) (r : Field) : Type 0 where
+-- the answer says what was read, of at most that size
+pub record ReadsTo {A : Type 0} (size : A → ℕ) (input : List ℕ) (most : ℕ) (read : Got A) (r : Option (A × ℕ)) : Type 0 where
   pub same : read ≡ answered input r
-  pub within : r.value ≤ most
-  pub inside : r.next ≤ length input
+  pub within : IfSome r (λ found. size found.0 ≤ most)
+  pub inside : IfSome r (λ found. found.1 ≤ length input)
 
--- a signed number
-abbrev pub answered_signed : List ℕ → Signed → Got ℤ
-answered_signed input r = got_at input r.ok r.value r.next
+-- a number, and a signed number
+abbrev pub Reads : List ℕ → ℕ → Got ℕ → Option (ℕ × ℕ) → Type 0
+Reads input most read r = ReadsTo (λ n. n) input most read r
 
-pub record ReadsSigned (input : List ℕ) (most : ℕ) (read : Got ℤ) (r : Signed) : Type 0 where
-  pub same : read ≡ answered_signed input r
-  pub within : nat_abs r.value ≤ most
-  pub inside : r.next ≤ length input
+abbrev pub ReadsSigned : List ℕ → ℕ → Got ℤ → Option (ℤ × ℕ) → Type 0
+ReadsSigned input most read r = ReadsTo nat_abs input most read r
 
--- a line, or a part of one, whose numbers stand in a room
-abbrev pub answered_line : List ℕ → Line → List ℕ → Got (List ℕ)
-answered_line input r numbers = got_at input r.ok numbers r.next
+-- a line, or a part of one, whose numbers stand in a room, and the place behind it; or nothing
+abbrev pub answered_line : List ℕ → Option ℕ → List ℕ → Got (List ℕ)
+answered_line input None numbers = bad
+answered_line input (Some next) numbers = got numbers (drop next input)
 
--- 0, and the numbers of all lines stand in a room; or the malformed line
-unfoldable pub answered_rows : ℕ → List ℕ → GotRows
-answered_rows line numbers = cond (eqb line 0) (rows numbers) (malformed line)
+-- the numbers of all lines stand in a room; or the malformed line
+abbrev pub answered_rows : Result (Unit {0}) ℕ → List ℕ → GotRows
+answered_rows (Ok done) numbers = rows numbers
+answered_rows (Err line) numbers = malformed line

@@ -8,8 +8,5 @@ use Rattle.reading.proofs.read_fields.Given as goal
 
 abbrev pub invariant-loop-i : goal.invariant-loop-i
 invariant-loop-i l =
-    (l.i ≤ length l.room) × (length l.room ≡ length l.initial.room) × (l.at ≤ length l.input)
+    (l.at ≤ length l.input)
     × (read_fields most_word l.more (length l.initial.room) (drop l.from l.input) ≡ before (take l.i l.room) (read_fields most_word l.more (length l.room - l.i) (drop l.at l.input)))
-
-abbrev pub decreases-loop-i : goal.decreases-loop-i
-decreases-loop-i l = length l.room - l.i

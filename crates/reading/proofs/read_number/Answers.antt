@@ -1,33 +1,22 @@
 -- `reading::read_number` meets its contract: the first byte decides.
 use mathlib.Core.Path.{sym, ◌∙◌}
 use native.Mathlib.Omega.{arith}
-use Rattle.reading.specs.Answers.{got_at}
 use Rattle.lines.proofs.Decimals.{of_digit}
-use Rattle.reading.proofs.Places.{reads_nothing, number_end_at, number_zero_at, number_none_at, number_starts_at}
+use Rattle.reading.proofs.Places.{reads_nothing, reads, number_end_at, number_zero_at, number_none_at, number_starts_at}
 use Rattle.reading.proofs.read_number.Goals as goal
 
 pub returns-then-from-input : goal.returns-then-from-input
-returns-then-from-input c = reads_nothing c.nothing.ensures (number_end_at _ c.args.input.now _ c.if-from-input.true)
+returns-then-from-input c = reads_nothing (number_end_at _ c.args.input.now _ c.if-from-input.true)
 
 pub returns-then-byte-eq48 : goal.returns-then-byte-eq48
-unfolding got_at
-returns-then-byte-eq48 c =
-    record {
-      same = number_zero_at _ c.args.input.now _ (omega arith) c.if-byte-eq48.true;
-      within = omega arith;
-      inside = omega arith;
-    }
+returns-then-byte-eq48 c = reads _ _ (number_zero_at _ c.args.input.now _ (omega arith) c.if-byte-eq48.true) (omega arith) (omega arith)
 
 pub returns-then-not-is_digit : goal.returns-then-not-is_digit
 returns-then-not-is_digit c =
-    reads_nothing c.nothing-then-not-is_digit.ensures
-    (number_none_at _ c.args.input.now _ (omega arith) c.if-byte-eq48.false (sym c.is_digit.ensures ∙ c.if-not-is_digit.true))
+    reads_nothing (number_none_at _ c.args.input.now _ (omega arith) c.if-byte-eq48.false (sym c.is_digit.ensures ∙ c.if-not-is_digit.true))
 
 pub overflow_sub-first : goal.overflow_sub-first
 overflow_sub-first c = omega (arith, of_digit _ (sym c.is_digit.ensures ∙ c.if-not-is_digit.false))
-
-pub overflow_cast-first : goal.overflow_cast-first
-overflow_cast-first c = omega (arith, of_digit _ (sym c.is_digit.ensures ∙ c.if-not-is_digit.false))
 
 pub read_digits-requires : goal.read_digits-requires
 read_digits-requires c = omega (arith, of_digit _ (sym c.is_digit.ensures ∙ c.if-not-is_digit.false))

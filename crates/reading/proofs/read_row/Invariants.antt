@@ -1,7 +1,7 @@
 -- `reading::read_row` meets its contract: what stands in the room, and then the rest of the line.
 use mathlib.Core.Path.{◌≡◌}
-use Prim.Native.Nat.{◌-◌, ◌≤◌}
-use lib.ListN.{length, take, drop}
+use Prim.Native.Nat.{◌-◌}
+use lib.ListN.{take, drop}
 use Rattle.reading.specs.Reading.{read_row, read_fields}
 use Rattle.grid.specs.Limits.{most_number}
 use Rattle.reading.proofs.Lines.{before}
@@ -9,8 +9,5 @@ use Rattle.reading.proofs.read_row.Given as goal
 
 abbrev pub invariant-loop-i : goal.invariant-loop-i
 invariant-loop-i l =
-    (l.i ≤ l.count) × (length l.room ≡ length l.initial.room) × (take l.base l.room ≡ take l.base l.initial.room)
+    (take l.base l.room ≡ take l.base l.initial.room)
     × (read_row most_number l.count (drop l.from l.input) ≡ before (take l.i (drop l.base l.room)) (read_fields most_number 0 (l.count - l.i) (drop l.at l.input)))
-
-abbrev pub decreases-loop-i : goal.decreases-loop-i
-decreases-loop-i l = l.count - l.i
