@@ -6,18 +6,16 @@ use Prim.Native.Nat.{ℕ, ◌*◌, ◌≤◌, ◌<◌}
 use native.Mathlib.Nat.{mul-le-mul_right, one-mul}
 use native.Mathlib.Omega.{arith}
 use lib.Dec.{leb}
-use lib.ListN.{length, drop}
+use lib.ListN.{length}
 use borrow.Author.Tests.{leb-true, eq-eqb, ne_eqb, lt-ltb, le-ltb}
 use Rattle.laws.specs.Room.{laid}
 use Rattle.grid.specs.Limits.{most_rounds, most_weight, most_small, most_number}
 use Rattle.grid.specs.Sides.{sides_fit}
 use Rattle.grid.proofs.Sides.{sides_within}
-use Rattle.reading.specs.Reading.{Got, bad, got, GotRows, malformed, rows, read_rows}
-use Rattle.reading.specs.Answers.{answered_rows}
+use Rattle.reading.specs.Reading.{got, GotRows, malformed, rows, read_rows}
 use Rattle.gridtext.specs.Grid.{samples_of, smoothing_fits, head_number, refused_answer, refused, grant, granted, with_rows, with_head}
-use Rattle.gridtext.specs.Promise.{answered_head, samples_filled, left}
+use Rattle.gridtext.specs.Promise.{samples_filled, left}
 use Rattle.gridtext.specs.declared.Head.{Head}
-use Rattle.gridtext.specs.declared.Headed.{Headed}
 
 -- line 1's numbers passed
 pub passed : (h : Head) → head_number h ≡ 0 → (sides_fit h.nx h.ny h.nz ≡ true) × (samples_of h ≤ most_small) × (leb h.rounds most_rounds && leb h.weight most_weight ≡ true)
@@ -54,27 +52,15 @@ module _ (h : Head) (rest room : List ℕ) where
     room_holds l = rw (eq-eqb (head_number h) 0 e, le-ltb (length room) (samples_of h) l)
 
 -- after the rows
-module _ (h : Head) (read : GotRows) (line : ℕ) (ns room exit : List ℕ) (e : read ≡ answered_rows line ns) (x : exit ≡ samples_filled read room) where
-  pub rows_refused : (line ≡ 0 → ⊥) → left (refused_answer 12 line) exit ≡ with_rows h room read
-  unfolding with_rows refused answered_rows samples_filled
-  rows_refused ne =
-      let q : read ≡ malformed line = rw (ne_eqb line 0 ne) at e in
+module _ (h : Head) (read : GotRows) (room exit : List ℕ) (x : exit ≡ samples_filled read room) where
+  pub rows_refused : (line : ℕ) → read ≡ malformed line → left (refused_answer 12 line) exit ≡ with_rows h room read
+  unfolding with_rows refused samples_filled
+  rows_refused line q =
       let y : exit ≡ room = x ∙ rw q in
       rw (q, y)
 
-  pub rows_granted : line ≡ 0 → left (grant h) exit ≡ with_rows h room read
-  unfolding with_rows granted answered_rows samples_filled
-  rows_granted z =
-      let q : read ≡ rows ns = rw (eq-eqb line 0 z) at e in
+  pub rows_granted : (ns : List ℕ) → read ≡ rows ns → left (grant h) exit ≡ with_rows h room read
+  unfolding with_rows granted samples_filled
+  rows_granted ns q =
       let y : exit ≡ laid ns room = x ∙ rw q in
       rw (q, y)
-
--- line 1, by its answer
-module _ (input : List ℕ) (r : Headed) (read : Got Head) (e : read ≡ answered_head input r) where
-  pub head_not : r.ok ≡ false → read ≡ bad
-  unfolding answered_head
-  head_not f = rw f at e
-
-  pub head_is : r.ok ≡ true → read ≡ got r.head (drop r.next input)
-  unfolding answered_head
-  head_is f = rw f at e

@@ -1,16 +1,15 @@
 -- Line 1 and the samples of a small grid.
-use mathlib.Core.Path.{◌≡◌, refl, ap, ◌∙◌}
-use mathlib.Core.List.{List, [], ◌∷◌}
+use mathlib.Core.Path.{◌≡◌, refl}
+use mathlib.Core.List.{List, [], ◌∷◌, ◌++◌}
 use mathlib.Core.Bool.{and-false}
 use Prim.Native.Nat.{ℕ, ◌≤◌, ◌<◌}
 use native.Mathlib.Omega.{arith}
 use lib.ListN.{length, get_or, take, drop}
-use lib.Seq.{length-take-le, get_or-take, take_at}
+use lib.Seq.{length-take-le, get_or-take}
 use borrow.Author.Tests.{eq-eqb, ne_eqb}
 use Rattle.laws.specs.Room.{laid}
 use Rattle.grid.specs.Limits.{most_number}
-use Rattle.reading.specs.Reading.{bad, got, after, read_row, GotRows, malformed, rows}
-use Rattle.reading.specs.Answers.{answered_rows}
+use Rattle.reading.specs.Reading.{bad, got, after, read_row, GotRows, rows}
 use Rattle.gridtext.specs.Promise.{samples_filled}
 use Rattle.gridtext.specs.Grid.{letter_g, head_of, read_head}
 
@@ -55,17 +54,7 @@ module _ (input : List ℕ) (l : 2 ≤ length input) (g : get_or input 0 0 ≡ l
   unfolding after
   head_reads ns rest e = rw (head_row input l g t, e, six ns)
 
--- the room for samples, by the line that was answered
-module _ (read : GotRows) (line n : ℕ) (found entry exit : List ℕ) (e : read ≡ answered_rows line (take n found)) where
-  pub filled_well : line ≡ 0 → n ≤ length found → exit ≡ laid (take n found) entry → (read ≡ answered_rows line (take n exit)) × (exit ≡ samples_filled read entry)
-  unfolding answered_rows samples_filled laid
-  filled_well z l x =
-      let q : read ≡ rows (take n found) = rw (eq-eqb line 0 z) at e in
-      let t : take n exit ≡ take n found = ap (take n) x ∙ take_at (take n found) (drop (length (take n found)) entry) n (length-take-le n found l) in
-      (rw (eq-eqb line 0 z, t) q, rw q x)
-
-  pub filled_not : (line ≡ 0 → ⊥) → exit ≡ entry → (read ≡ answered_rows line (take n exit)) × (exit ≡ samples_filled read entry)
-  unfolding answered_rows samples_filled
-  filled_not ne x =
-      let q : read ≡ malformed line = rw (ne_eqb line 0 ne) at e in
-      (rw (ne_eqb line 0 ne) q, rw q x)
+-- the room for samples, where all rows are well formed
+pub filled : (read : GotRows) (n : ℕ) (found copied entry : List ℕ) → read ≡ rows (take n found) → n ≤ length found → copied ≡ take n found → copied ++ drop n entry ≡ samples_filled read entry
+unfolding samples_filled laid
+filled read n found copied entry q l c = rw (q, c, length-take-le n found l)
