@@ -1,7 +1,7 @@
 -- A letter and a tab at a place of an input, and what is read behind them.
 use mathlib.Core.Path.{◌≡◌, refl, ap, ◌∙◌}
 use mathlib.Core.List.{List, [], ◌∷◌, ◌++◌}
-use mathlib.Core.Bool.{Bool, true, false, cond, false≢true}
+use mathlib.Core.Bool.{true, false, cond, false≢true}
 use Prim.Native.Nat.{ℕ, ◌+◌, ◌≤◌, ◌<◌}
 use native.Mathlib.Omega.{arith}
 use lib.Dec.{eqb}
@@ -10,11 +10,9 @@ use lib.Seq.{drop-drop}
 use borrow.Author.Tests.{eq-eqb, ne_eqb}
 use Rattle.lines.specs.Line.{tab}
 use Rattle.lines.proofs.Bytes.{byte_at}
-use Rattle.reading.specs.Reading.{Got, bad, read_lettered}
-use Rattle.reading.specs.Answers.{got_at}
+use Rattle.reading.specs.Reading.{Got, bad, got, read_lettered}
 use Rattle.reading.proofs.Exact.{Exact}
-use Rattle.reading.proofs.Places.{got_is}
-use Rattle.meshrows.specs.Answers.{starts_with, Behind}
+use Rattle.meshrows.specs.Answers.{starts_with}
 
 -- what stands at a place, byte by byte
 module _ (letter : ℕ) (input : List ℕ) (from : ℕ) where
@@ -63,16 +61,9 @@ pub begun_inside : (letter : ℕ) (input : List ℕ) (from : ℕ) → starts_wit
 begun_inside letter input from e = omega (arith, two_long letter (drop from input) e, length-drop from input)
 
 -- the place behind a line: no line is empty
-module _ (input : List ℕ) (from : ℕ) where
-  pub behind_none : Behind input from false 0
-  behind_none = record { past = λ e. absurd (false≢true e); inside = omega arith }
-
-  module _ {A : Type 0} {read : List ℕ → Got A} {write : A → List ℕ} {Fits : A → Type 0} (x : Exact read write Fits) (some : (a : A) → 0 < length (write a)) (ok : Bool) (a : A) (next : ℕ) where
-    pub behind_line : read (drop from input) ≡ got_at input ok a next → next ≤ length input → Behind input from ok next
-    behind_line h m = record { past = further; inside = m }
-      where
-        further : ok ≡ true → from < next
-        further e =
-            let t : drop from input ≡ write a ++ drop next input = x.was a (drop from input) (drop next input) (got_is input ok a next h e) in
-            let n : length (drop from input) ≡ length (write a) + length (drop next input) = ap length t ∙ length-append (write a) (drop next input) in
-            omega (arith, some a, length-drop from input, length-drop next input)
+pub behind_line : {A : Type 0} {read : List ℕ → Got A} {write : A → List ℕ} {Fits : A → Type 0} → Exact read write Fits → ((a : A) → 0 < length (write a)) → (input : List ℕ) (from : ℕ) (a : A) (next : ℕ)
+    → read (drop from input) ≡ got a (drop next input) → next ≤ length input → (from < next) × (next ≤ length input)
+behind_line {write = write} x some input from a next h m =
+    let t : drop from input ≡ write a ++ drop next input = x.was a (drop from input) (drop next input) h in
+    let n : length (drop from input) ≡ length (write a) + length (drop next input) = ap length t ∙ length-append (write a) (drop next input) in
+    (omega (arith, some a, length-drop from input, length-drop next input), m)

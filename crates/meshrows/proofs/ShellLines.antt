@@ -1,13 +1,12 @@
 -- A shell's line at a place of an input: four numbers, the volume, and the box.
 use mathlib.Core.Path.{◌≡◌, ◌∙◌}
 use mathlib.Core.List.{List}
-use mathlib.Core.Bool.{Bool, true}
+use mathlib.Core.Bool.{true}
 use Prim.Native.Nat.{ℕ, ◌+◌}
 use lib.IntN.{ℤ}
 use lib.ListN.{drop}
 use Rattle.lines.specs.Line.{tab}
 use Rattle.reading.specs.Reading.{most_word, Got, bad, got, read_fields, read_signed_field, read_both, read_row}
-use Rattle.reading.specs.Answers.{got_at}
 use Rattle.reading.proofs.Fields.{row_fields}
 use Rattle.records.specs.declared.Shell.{Shell}
 use Rattle.records.specs.Grown.{most_volume}
@@ -43,8 +42,14 @@ module _ (input : List ℕ) (from : ℕ) (begun : starts_with letter_s (drop fro
         ∙ both_second_not shell_of (read_fields most_word 7 4) read_behind (drop (from + 2) input) counts (drop p input) e (both_not pair (read_signed_field most_volume tab) (read_row most_word 6) (drop p input) h)
 
     module _ (volume : ℤ) (q : ℕ) (h : read_signed_field most_volume tab (drop p input) ≡ got volume (drop q input)) where
-      pub shell_got : (ok : Bool) (box : List ℕ) (next : ℕ) → read_fields most_word 0 6 (drop q input) ≡ got_at input ok box next → read_shell (drop from input) ≡ got_at input ok (shell_of counts (volume, box)) next
-      shell_got ok box next g =
+      pub box_not : read_fields most_word 0 6 (drop q input) ≡ bad → read_shell (drop from input) ≡ bad
+      box_not g =
           begins_whole
-          ∙ both_got shell_of (read_fields most_word 7 4) read_behind (drop (from + 2) input) counts (drop p input) e input ok (volume, box) next
-          (both_got pair (read_signed_field most_volume tab) (read_row most_word 6) (drop p input) volume (drop q input) h input ok box next (row_fields most_word 6 (drop q input) ∙ g))
+          ∙ both_second_not shell_of (read_fields most_word 7 4) read_behind (drop (from + 2) input) counts (drop p input) e
+          (both_second_not pair (read_signed_field most_volume tab) (read_row most_word 6) (drop p input) volume (drop q input) h (row_fields most_word 6 (drop q input) ∙ g))
+
+      pub shell_got : (box : List ℕ) (next : ℕ) → read_fields most_word 0 6 (drop q input) ≡ got box (drop next input) → read_shell (drop from input) ≡ got (shell_of counts (volume, box)) (drop next input)
+      shell_got box next g =
+          begins_whole
+          ∙ both_got shell_of (read_fields most_word 7 4) read_behind (drop (from + 2) input) counts (drop p input) e (volume, box) (drop next input)
+          (both_got pair (read_signed_field most_volume tab) (read_row most_word 6) (drop p input) volume (drop q input) h box (drop next input) (row_fields most_word 6 (drop q input) ∙ g))

@@ -1,12 +1,12 @@
 -- `meshrows::read_counts` meets its contract: `M`, and three numbers.
-use mathlib.Core.Path.{ap, ◌∙◌}
-use Rattle.reading.specs.Reading.{got, after}
+use Rattle.reading.specs.Reading.{after}
 use Rattle.meshread.specs.Lines.{counts_of, read_counts}
-use Rattle.meshrows.proofs.Pieces.{made_got}
 use Rattle.meshrows.proofs.read_counts.Goals as goal
 
-pub returns : goal.returns
-unfolding read_counts counts_of
-returns c =
-    let t = c.read_three-line in
-    let r = c.read_three-line.result in record { line = ap (after (λ ns rest. got (counts_of ns) rest)) t.ensures.line ∙ made_got counts_of c.args.input.now r.ok r.numbers r.next; place = t.ensures.place }
+pub returns-in_err-numbers-clause-line : goal.returns-in_err-numbers-clause-line
+unfolding read_counts after
+returns-in_err-numbers-clause-line c = rw (c.from_residual.ensures, c.in_err-numbers.ensures.line)
+
+pub returns-clause-line : goal.returns-clause-line
+unfolding read_counts counts_of after
+returns-clause-line c = rw c.in_ok-numbers.ensures.line

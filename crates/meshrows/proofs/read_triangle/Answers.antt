@@ -2,6 +2,6 @@
 use Rattle.meshread.specs.Lines.{read_triangle}
 use Rattle.meshrows.proofs.read_triangle.Goals as goal
 
-pub returns : goal.returns
+pub returns-clause-line : goal.returns-clause-line
 unfolding read_triangle
-returns c = record { line = c.read_three.ensures.line; place = c.read_three.ensures.place }
+returns-clause-line c = c.read_numbers.ensures.line
