@@ -23,7 +23,7 @@ use Rattle.reading.proofs.Fields.{Numbers}
 use Rattle.meshread.specs.Mesh.{mesh_of, read_lines_of}
 use Rattle.meshread.proofs.Lines.{PointFits, point_exact, triangle_exact}
 use Rattle.meshform.proofs.Rooms.{front_there, back_there}
-use Rattle.meshform.specs.Form.{counts_for, point_lines, triangle_lines, shell_lines, last_lines, with_points, with_triangles, Passes, stops, goes, Anything, Forms, malformed, formed}
+use Rattle.meshform.specs.Form.{counts_for, point_lines, triangle_lines, shell_lines, last_lines, with_points, with_triangles, Goes, Anything, Formed}
 
 -- the first n shells were read
 pub record ShellsRead (input : List ℕ) (from first shells n at : ℕ) : Type 0 where
@@ -37,7 +37,7 @@ shells_begin input from first shells =
     let f : first + 0 ≡ first = omega arith in
     record { ss = []; few = omega arith; so_far = rw (e, f) (lines_begin (shell_lines shells first (drop from input))) }
 
-module _ (input : List ℕ) (from first shells n at : ℕ) (some : 0 < first) (p : ShellsRead input from first shells n at) where
+module _ (input : List ℕ) (from first shells n at : ℕ) (p : ShellsRead input from first shells n at) where
   pub shells_next : n < shells → (s : Shell) (next : ℕ) → read_shell (drop at input) ≡ got s (drop next input) → ShellsRead input from first shells (n + 1) next
   shells_next less s next g =
       let line : first + n + 1 ≡ first + (n + 1) = omega arith in
@@ -47,44 +47,41 @@ module _ (input : List ℕ) (from first shells n at : ℕ) (some : 0 < first) (p
         so_far = rw (sym line) (p.so_far ∙ lines_turn (λ bound. read_shell) (λ shell. 0) shells n 0 (first + n) (drop at input) p.ss less s (drop next input) g);
       }
 
-  pub shells_stop : n < shells → read_shell (drop at input) ≡ bad → Passes (last_lines shells first (drop from input)) input (first + n) 0 (λ ss. Anything)
+  pub shells_stop : n < shells → read_shell (drop at input) ≡ bad → last_lines shells first (drop from input) ≡ wrong (first + n)
   unfolding following
-  shells_stop less b =
-      stops (ap (following (λ ss rest. read_end (first + shells) ss rest)) (p.so_far ∙ lines_stop (λ bound. read_shell) (λ shell. 0) shells n 0 (first + n) (drop at input) p.ss less b)) (λ z. absurd (omega (arith, some)))
+  shells_stop less b = ap (following (λ ss rest. read_end (first + shells) ss rest)) (p.so_far ∙ lines_stop (λ bound. read_shell) (λ shell. 0) shells n 0 (first + n) (drop at input) p.ss less b)
 
   module _ (all : shells ≤ n) where
     done : last_lines shells first (drop from input) ≡ read_end (first + shells) p.ss (drop at input)
     unfolding following
     done = ap (following (λ ss rest. read_end (first + shells) ss rest)) (p.so_far ∙ lines_done (λ bound. read_shell) (λ shell. 0) shells n 0 (first + n) (drop at input) p.ss (omega (arith, p.few, all)))
 
-    pub shells_over : at < length input → Passes (last_lines shells first (drop from input)) input (first + n) 0 (λ ss. Anything)
+    pub shells_over : at < length input → last_lines shells first (drop from input) ≡ wrong (first + shells)
     unfolding read_end
-    shells_over l =
-        let e : first + shells ≡ first + n = omega (arith, p.few, all) in
-        stops (done ∙ ap (read_end (first + shells) p.ss) (byte_at input at l) ∙ ap wrong e) (λ z. absurd (omega (arith, some)))
+    shells_over l = done ∙ ap (read_end (first + shells) p.ss) (byte_at input at l)
 
-    pub shells_done : length input ≤ at → Passes (last_lines shells first (drop from input)) input 0 at (λ ss. Anything)
+    pub shells_done : length input ≤ at → Goes (last_lines shells first (drop from input)) input at (λ ss. Anything)
     unfolding read_end
     shells_done l =
         let none = drop_of_length-le input l in
-        goes p.ss (done ∙ ap (read_end (first + shells) p.ss) none ∙ ap (lined p.ss) (sym none)) refl tt
+        record { all = p.ss; lines = done ∙ ap (read_end (first + shells) p.ss) none ∙ ap (lined p.ss) (sym none); left = tt }
 
 -- ---- all of them
 module _ (input : List ℕ) (from v t shells : ℕ) where
   abbrev c : Counts
   c = counts_for v t shells
 
-  points_wrong : (line : ℕ) → point_lines v (drop from input) ≡ wrong line → read_lines_of c (drop from input) ≡ wrong line
+  pub points_wrong : (line : ℕ) → point_lines v (drop from input) ≡ wrong line → read_lines_of c (drop from input) ≡ wrong line
   unfolding read_lines_of following
   points_wrong line e = rw e
 
   module _ (vs : List (List ℕ)) (behind-vs : List ℕ) (p : point_lines v (drop from input) ≡ lined vs behind-vs) where
-    triangles_wrong : (line : ℕ) → triangle_lines t (2 + v) behind-vs ≡ wrong line → read_lines_of c (drop from input) ≡ wrong line
+    pub triangles_wrong : (line : ℕ) → triangle_lines t (2 + v) behind-vs ≡ wrong line → read_lines_of c (drop from input) ≡ wrong line
     unfolding read_lines_of following
     triangles_wrong line e = rw (p, e)
 
     module _ (ts : List (List ℕ)) (behind-ts : List ℕ) (q : triangle_lines t (2 + v) behind-vs ≡ lined ts behind-ts) where
-      shells_wrong : (line : ℕ) → last_lines shells (2 + v + t) behind-ts ≡ wrong line → read_lines_of c (drop from input) ≡ wrong line
+      pub shells_wrong : (line : ℕ) → last_lines shells (2 + v + t) behind-ts ≡ wrong line → read_lines_of c (drop from input) ≡ wrong line
       unfolding read_lines_of following read_end
       shells_wrong line e = rw (p, q) (go (shell_lines shells (2 + v + t) behind-ts) e)
         where
@@ -143,49 +140,24 @@ module _ (input : List ℕ) (from v t shells : ℕ) where
     tips_there : part_of (triangles_at v) (3 * t) room ≡ tips
     tips_there = ap (λ n. part_of (triangles_at v) n room) (sym long_tips) ∙ part_written (with_points v vs old) (triangles_at v) tips (omega (arith, long_tips, long_room))
 
-  -- the three ways that the pass ends
-  module _ (old one : List ℕ) (line next : ℕ) (p : Passes (point_lines v (drop from input)) input line next (λ vs. one ≡ with_points v vs old)) where
-    pub ends_at_points : (line ≡ 0 → ⊥) → (place : ℕ) (work : List ℕ) → Forms c input from line place work
-    ends_at_points n place work = go p
-      where
-        go : Passes (point_lines v (drop from input)) input line next (λ vs. one ≡ with_points v vs old) → Forms c input from line place work
-        go (stops e m) = malformed (points_wrong line e) m
-        go (goes vs e z w) = absurd (n z)
-
-    module _ (none : line ≡ 0) (two : List ℕ) (line2 next2 : ℕ) (q : Passes (triangle_lines t (2 + v) (drop next input)) input line2 next2 (λ ts. two ≡ with_triangles v ts one)) where
-      pub ends_at_triangles : (line2 ≡ 0 → ⊥) → (place : ℕ) (work : List ℕ) → Forms c input from line2 place work
-      ends_at_triangles n place work = go p q
-        where
-          go : Passes (point_lines v (drop from input)) input line next (λ vs. one ≡ with_points v vs old)
-              → Passes (triangle_lines t (2 + v) (drop next input)) input line2 next2 (λ ts. two ≡ with_triangles v ts one) → Forms c input from line2 place work
-          go (stops e m) y = absurd (m none)
-          go (goes vs e z w) (stops f m) = malformed (triangles_wrong vs (drop next input) e line2 f) m
-          go (goes vs e z w) (goes ts f z2 w2) = absurd (n z2)
-
-      pub ends : length old ≡ work_length v t → line2 ≡ 0 → (line3 next3 : ℕ) → Passes (last_lines shells (2 + v + t) (drop next2 input)) input line3 next3 (λ ss. Anything)
-          → Forms c input from line3 next2 two
-      unfolding mesh_of
-      ends whole none2 line3 next3 r = go p q r
-        where
-          go : Passes (point_lines v (drop from input)) input line next (λ vs. one ≡ with_points v vs old)
-              → Passes (triangle_lines t (2 + v) (drop next input)) input line2 next2 (λ ts. two ≡ with_triangles v ts one)
-              → Passes (last_lines shells (2 + v + t) (drop next2 input)) input line3 next3 (λ ss. Anything) → Forms c input from line3 next2 two
-          go (stops e m) y x = absurd (m none)
-          go (goes vs e z w) (stops f m) x = absurd (m none2)
-          go (goes vs e z w) (goes ts f z2 w2) (stops g m) = malformed (shells_wrong vs (drop next input) e ts (drop next2 input) f line3 g) m
-          go (goes vs e z w) (goes ts f z2 w2) (goes ss g z3 u) =
-              let many-v = (lines_read read_point next_edge (lettered letter_v) PointFits point_exact v 0 2 (drop from input) vs (drop next input) e).many in
-              let many-t = (lines_read (λ bound. read_triangle) (λ row. 0) (lettered letter_t) (λ bound. Numbers most_word 3) (λ bound. triangle_exact) t 0 (2 + v) (drop next input) ts (drop next2 input) f).many in
-              let here : two ≡ with_triangles v ts (with_points v vs old) = w2 ∙ ap (with_triangles v ts) w in
-              formed z3 (record {
-                vs = vs;
-                ts = ts;
-                shells = ss;
-                behind = drop next input;
-                points_read = e;
-                triangles_read = f;
-                shells_read = shells_are vs (drop next input) e ts (drop next2 input) f ss (drop next3 input) g;
-                points_there = ap (part_of 0 (3 * v)) here ∙ places_there old whole vs ts many-v many-t;
-                marks_there = ap (part_of (marks_at v) v) here ∙ marks_stand old whole vs ts many-v many-t;
-                triangles_there = ap (part_of (triangles_at v) (3 * t)) here ∙ tips_there old whole vs ts many-v many-t;
-              })
+  -- all lines are well formed
+  pub formed : (old one two : List ℕ) (next next2 next3 : ℕ) → length old ≡ work_length v t → Goes (point_lines v (drop from input)) input next (λ vs. one ≡ with_points v vs old)
+      → Goes (triangle_lines t (2 + v) (drop next input)) input next2 (λ ts. two ≡ with_triangles v ts one) → Goes (last_lines shells (2 + v + t) (drop next2 input)) input next3 (λ ss. Anything)
+      → Formed c input from next2 two
+  unfolding mesh_of
+  formed old one two next next2 next3 whole p q r =
+      let many-v = (lines_read read_point next_edge (lettered letter_v) PointFits point_exact v 0 2 (drop from input) p.all (drop next input) p.lines).many in
+      let many-t = (lines_read (λ bound. read_triangle) (λ row. 0) (lettered letter_t) (λ bound. Numbers most_word 3) (λ bound. triangle_exact) t 0 (2 + v) (drop next input) q.all (drop next2 input) q.lines).many in
+      let here : two ≡ with_triangles v q.all (with_points v p.all old) = q.left ∙ ap (with_triangles v q.all) p.left in
+      record {
+        vs = p.all;
+        ts = q.all;
+        shells = r.all;
+        behind = drop next input;
+        points_read = p.lines;
+        triangles_read = q.lines;
+        shells_read = shells_are p.all (drop next input) p.lines q.all (drop next2 input) q.lines r.all (drop next3 input) r.lines;
+        points_there = ap (part_of 0 (3 * v)) here ∙ places_there old whole p.all q.all many-v many-t;
+        marks_there = ap (part_of (marks_at v) v) here ∙ marks_stand old whole p.all q.all many-v many-t;
+        triangles_there = ap (part_of (triangles_at v) (3 * t)) here ∙ tips_there old whole p.all q.all many-v many-t;
+      }

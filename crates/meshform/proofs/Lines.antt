@@ -1,7 +1,6 @@
 -- Points and triangles as their lines are read one after the other into the room.
 use mathlib.Core.Path.{◌≡◌, refl, ap, sym, ◌∙◌}
 use mathlib.Core.List.{List, [], ◌∷◌, ◌++◌, map, flat_map, map-append, append-nil}
-use mathlib.Core.Bool.{true, false, true≢false, false≢true}
 use Prim.Native.Nat.{ℕ, suc, ◌+◌, ◌*◌, ◌-◌, ◌≤◌, ◌<◌}
 use native.Mathlib.Omega.{arith}
 use lib.ListN.{length, get_or, set, drop, length-append, length-map}
@@ -9,12 +8,12 @@ use lib.Seq.{sets}
 use Rattle.laws.specs.Threes.{three_at}
 use Rattle.laws.proofs.Ranges.{flat_append, length_flat}
 use Rattle.laws.proofs.Writes.{sets_append}
-use Rattle.reading.specs.Lined.{read_lines}
+use Rattle.reading.specs.Reading.{bad}
+use Rattle.reading.specs.Lined.{wrong, read_lines}
 use Rattle.reading.proofs.Turns.{behind, lines_begin, lines_turn, lines_stop, lines_done}
 use Rattle.columns.specs.Room.{marks_at}
 use Rattle.meshread.specs.Lines.{next_edge, read_point, read_triangle}
-use Rattle.meshform.specs.declared.Taken.{Taken}
-use Rattle.meshform.specs.Form.{point_lines, triangle_lines, with_points, TakesPoint, no_point, point, TakesTriangle, no_triangle, corners, Passes, stops, goes}
+use Rattle.meshform.specs.Form.{point_lines, triangle_lines, with_points, PointTaken, TriangleTaken, Goes}
 use Rattle.meshform.proofs.Rooms.{point_more}
 
 abbrev xyz : List ℕ → List ℕ
@@ -40,37 +39,30 @@ points_begin input from v work =
     record { vs = []; many = refl; few = omega arith; so_far = rw e (lines_begin (point_lines v (drop from input))); room = refl }
 
 module _ (input : List ℕ) (from v : ℕ) (old work : List ℕ) (i at bound : ℕ) (p : PointsRead input from v old work i at bound) where
-  module _ (less : i < v) (r : Taken) (after : List ℕ) (t : TakesPoint input at bound i v work r after) where
-    pub points_stop : r.ok ≡ false → (Left : List (List ℕ) → Type 0) → Passes (point_lines v (drop from input)) input (i + 2) 0 Left
-    points_stop e Left = go t
-      where
-        go : TakesPoint input at bound i v work r after → Passes (point_lines v (drop from input)) input (i + 2) 0 Left
-        go (no_point n b) = stops (p.so_far ∙ lines_stop read_point next_edge v i bound (i + 2) (drop at input) p.vs less b) (λ z. absurd (omega arith))
-        go (point o row g n w) = absurd (false≢true (sym e ∙ o))
+  module _ (less : i < v) where
+    pub points_stop : read_point bound (drop at input) ≡ bad → point_lines v (drop from input) ≡ wrong (i + 2)
+    points_stop b = p.so_far ∙ lines_stop read_point next_edge v i bound (i + 2) (drop at input) p.vs less b
 
-    pub points_next : r.ok ≡ true → PointsRead input from v old after (i + 1) r.next r.bound
-    points_next e = go t
-      where
-        go : TakesPoint input at bound i v work r after → PointsRead input from v old after (i + 1) r.next r.bound
-        go (no_point n b) = absurd (true≢false (sym e ∙ n))
-        go (point o row g n w) =
-            let line : i + 2 + 1 ≡ i + 1 + 2 = omega arith in
-            let turn = lines_turn read_point next_edge v i bound (i + 2) (drop at input) p.vs less row (drop r.next input) g in
-            let long-xyz : length (flat_map xyz p.vs) ≡ 3 * i = length_flat 3 xyz (λ row. refl) p.vs ∙ ap (λ k. 3 * k) p.many in
-            let long_marks : length (map (λ row. get_or row 4 0) p.vs) ≡ i = length-map p.vs (λ row. get_or row 4 0) ∙ p.many in
-            record {
-              vs = p.vs ++ (row ∷ []);
-              many = length-append p.vs (row ∷ []) ∙ ap (λ k. k + 1) p.many;
-              few = omega (arith, less);
-              so_far = rw (n, sym line) (p.so_far ∙ turn);
-              room =
-                  w ∙ ap (λ z. set (set (set (set z (3 * i) (get_or row 1 0)) (3 * i + 1) (get_or row 2 0)) (3 * i + 2) (get_or row 3 0)) (marks_at v + i) (get_or row 4 0)) p.room
-                  ∙ point_more old (marks_at v) (flat_map xyz p.vs) (map (λ row. get_or row 4 0) p.vs) (3 * i) i (get_or row 1 0) (get_or row 2 0) (get_or row 3 0) (get_or row 4 0) (sym long-xyz) (sym long_marks) (omega (arith, less))
-                  ∙ rw (flat_more xyz p.vs row, map-append (λ row. get_or row 4 0) p.vs (row ∷ []));
-            }
+    pub points_next : (next least : ℕ) (after : List ℕ) → PointTaken input at bound i v work next least after → PointsRead input from v old after (i + 1) next least
+    points_next next least after t =
+        let row = t.row in
+        let line : i + 2 + 1 ≡ i + 1 + 2 = omega arith in
+        let turn = lines_turn read_point next_edge v i bound (i + 2) (drop at input) p.vs less row (drop next input) t.read in
+        let long-xyz : length (flat_map xyz p.vs) ≡ 3 * i = length_flat 3 xyz (λ row. refl) p.vs ∙ ap (λ k. 3 * k) p.many in
+        let long_marks : length (map (λ row. get_or row 4 0) p.vs) ≡ i = length-map p.vs (λ row. get_or row 4 0) ∙ p.many in
+        record {
+          vs = p.vs ++ (row ∷ []);
+          many = length-append p.vs (row ∷ []) ∙ ap (λ k. k + 1) p.many;
+          few = omega (arith, less);
+          so_far = rw (t.above, sym line) (p.so_far ∙ turn);
+          room =
+              t.stored ∙ ap (λ z. set (set (set (set z (3 * i) (get_or row 1 0)) (3 * i + 1) (get_or row 2 0)) (3 * i + 2) (get_or row 3 0)) (marks_at v + i) (get_or row 4 0)) p.room
+              ∙ point_more old (marks_at v) (flat_map xyz p.vs) (map (λ row. get_or row 4 0) p.vs) (3 * i) i (get_or row 1 0) (get_or row 2 0) (get_or row 3 0) (get_or row 4 0) (sym long-xyz) (sym long_marks) (omega (arith, less))
+              ∙ rw (flat_more xyz p.vs row, map-append (λ row. get_or row 4 0) p.vs (row ∷ []));
+        }
 
-  pub points_done : v ≤ i → Passes (point_lines v (drop from input)) input 0 at (λ vs. work ≡ with_points v vs old)
-  points_done l = goes p.vs (p.so_far ∙ lines_done read_point next_edge v i bound (i + 2) (drop at input) p.vs (omega (arith, p.few, l))) refl p.room
+  pub points_done : v ≤ i → Goes (point_lines v (drop from input)) input at (λ vs. work ≡ with_points v vs old)
+  points_done l = record { all = p.vs; lines = p.so_far ∙ lines_done read_point next_edge v i bound (i + 2) (drop at input) p.vs (omega (arith, p.few, l)); left = p.room }
 
 -- the first k triangles were read
 pub record TrianglesRead (input : List ℕ) (from t line base : ℕ) (old work : List ℕ) (k at : ℕ) : Type 0 where
@@ -88,36 +80,29 @@ triangles_begin input from t line base work =
     record { ts = []; many = refl; few = omega arith; so_far = rw (e, f) (lines_begin (triangle_lines t line (drop from input))); room = refl }
 
 module _ (input : List ℕ) (from t line base : ℕ) (old work : List ℕ) (k at : ℕ) (p : TrianglesRead input from t line base old work k at) where
-  module _ (less : k < t) (r : Taken) (after : List ℕ) (x : TakesTriangle input at (base + 3 * k) work r after) where
-    pub triangles_stop : r.ok ≡ false → (0 < line) → (Left : List (List ℕ) → Type 0) → Passes (triangle_lines t line (drop from input)) input (line + k) 0 Left
-    triangles_stop e some Left = go x
-      where
-        go : TakesTriangle input at (base + 3 * k) work r after → Passes (triangle_lines t line (drop from input)) input (line + k) 0 Left
-        go (no_triangle n b) = stops (p.so_far ∙ lines_stop (λ bound. read_triangle) (λ row. 0) t k 0 (line + k) (drop at input) p.ts less b) (λ z. absurd (omega (arith, some)))
-        go (corners o row g w) = absurd (false≢true (sym e ∙ o))
+  module _ (less : k < t) where
+    pub triangles_stop : read_triangle (drop at input) ≡ bad → triangle_lines t line (drop from input) ≡ wrong (line + k)
+    triangles_stop b = p.so_far ∙ lines_stop (λ bound. read_triangle) (λ row. 0) t k 0 (line + k) (drop at input) p.ts less b
 
-    pub triangles_next : r.ok ≡ true → TrianglesRead input from t line base old after (k + 1) r.next
-    triangles_next e = go x
-      where
-        go : TakesTriangle input at (base + 3 * k) work r after → TrianglesRead input from t line base old after (k + 1) r.next
-        go (no_triangle n b) = absurd (true≢false (sym e ∙ n))
-        go (corners o row g w) =
-            let next-line : line + k + 1 ≡ line + (k + 1) = omega arith in
-            let turn = lines_turn (λ bound. read_triangle) (λ row. 0) t k 0 (line + k) (drop at input) p.ts less row (drop r.next input) g in
-            let xs : List ℕ = flat_map (λ row. three_at row 0) p.ts in
-            let long : length xs ≡ 3 * k = length_flat 3 (λ row. three_at row 0) (λ row. refl) p.ts ∙ ap (λ n. 3 * n) p.many in
-            let one : base + 3 * k + 1 ≡ suc (base + length xs) = omega arith in
-            let two : base + 3 * k + 2 ≡ suc (suc (base + length xs)) = omega arith in
-            let zero-th : base + 3 * k ≡ base + length xs = omega arith in
-            record {
-              ts = p.ts ++ (row ∷ []);
-              many = length-append p.ts (row ∷ []) ∙ ap (λ n. n + 1) p.many;
-              few = omega (arith, less);
-              so_far = rw (sym next-line) (p.so_far ∙ turn);
-              room =
-                  w ∙ ap (λ z. set (set (set z (base + 3 * k) (get_or row 0 0)) (base + 3 * k + 1) (get_or row 1 0)) (base + 3 * k + 2) (get_or row 2 0)) p.room
-                  ∙ rw (one, two, zero-th) (sets_append old base xs (three_at row 0)) ∙ ap (sets old base) (sym (flat_more (λ row. three_at row 0) p.ts row));
-            }
+    pub triangles_next : (next : ℕ) (after : List ℕ) → TriangleTaken input at (base + 3 * k) work next after → TrianglesRead input from t line base old after (k + 1) next
+    triangles_next next after x =
+        let row = x.row in
+        let next-line : line + k + 1 ≡ line + (k + 1) = omega arith in
+        let turn = lines_turn (λ bound. read_triangle) (λ row. 0) t k 0 (line + k) (drop at input) p.ts less row (drop next input) x.read in
+        let xs : List ℕ = flat_map (λ row. three_at row 0) p.ts in
+        let long : length xs ≡ 3 * k = length_flat 3 (λ row. three_at row 0) (λ row. refl) p.ts ∙ ap (λ n. 3 * n) p.many in
+        let one : base + 3 * k + 1 ≡ suc (base + length xs) = omega arith in
+        let two : base + 3 * k + 2 ≡ suc (suc (base + length xs)) = omega arith in
+        let zero-th : base + 3 * k ≡ base + length xs = omega arith in
+        record {
+          ts = p.ts ++ (row ∷ []);
+          many = length-append p.ts (row ∷ []) ∙ ap (λ n. n + 1) p.many;
+          few = omega (arith, less);
+          so_far = rw (sym next-line) (p.so_far ∙ turn);
+          room =
+              x.stored ∙ ap (λ z. set (set (set z (base + 3 * k) (get_or row 0 0)) (base + 3 * k + 1) (get_or row 1 0)) (base + 3 * k + 2) (get_or row 2 0)) p.room
+              ∙ rw (one, two, zero-th) (sets_append old base xs (three_at row 0)) ∙ ap (sets old base) (sym (flat_more (λ row. three_at row 0) p.ts row));
+        }
 
-  pub triangles_done : t ≤ k → Passes (triangle_lines t line (drop from input)) input 0 at (λ ts. work ≡ sets old base (flat_map (λ row. three_at row 0) ts))
-  triangles_done l = goes p.ts (p.so_far ∙ lines_done (λ bound. read_triangle) (λ row. 0) t k 0 (line + k) (drop at input) p.ts (omega (arith, p.few, l))) refl p.room
+  pub triangles_done : t ≤ k → Goes (triangle_lines t line (drop from input)) input at (λ ts. work ≡ sets old base (flat_map (λ row. three_at row 0) ts))
+  triangles_done l = record { all = p.ts; lines = p.so_far ∙ lines_done (λ bound. read_triangle) (λ row. 0) t k 0 (line + k) (drop at input) p.ts (omega (arith, p.few, l)); left = p.room }

@@ -1,5 +1,5 @@
 -- The pass over the lines behind line 1: the form of every line, and points, marks and triangles in the work room (document 02 (iii)).
-use Rattle.std.specs.Prelude.{◌≡◌, true, false, ℕ, ◌+◌, ◌*◌, get_or, set, drop}
+use Rattle.std.specs.Prelude.{◌≡◌, ℕ, ◌+◌, ◌*◌, get_or, set, drop, Option, Some, None, Result, Ok, Err}
 use mathlib.Core.List.{List, [], map, flat_map}
 use Rattle.std.proofs.lemmas.List.Edits.{sets}
 use Rattle.laws.specs.Threes.{three_at}
@@ -10,7 +10,6 @@ use Rattle.reading.specs.Reading.{bad, got}
 use Rattle.reading.specs.Lined.{Lined, wrong, lined, following, read_lines, read_end}
 use Rattle.meshread.specs.Lines.{Counts, next_edge, read_point, read_triangle, read_shell}
 use Rattle.meshread.specs.Mesh.{mesh_of, read_lines_of}
-use Rattle.meshform.specs.declared.Taken.{Taken}
 
 -- the numbers of line 1
 abbrev pub counts_for : ℕ → ℕ → ℕ → Counts
@@ -39,22 +38,35 @@ abbrev pub with_triangles : ℕ → List (List ℕ) → List ℕ → List ℕ
 with_triangles v ts room = sets room (triangles_at v) (flat_map (λ row. three_at row 0) ts)
 
 -- one point's line: it is malformed; or its numbers were stored for point i of v, and the next edge number must be above this one
-pub data TakesPoint (input : List ℕ) (from bound i v : ℕ) (before : List ℕ) (r : Taken) (after : List ℕ) : Type 0 where
-  no_point : r.ok ≡ false → read_point bound (drop from input) ≡ bad → TakesPoint input from bound i v before r after
-  point : r.ok ≡ true → (row : List ℕ) → read_point bound (drop from input) ≡ got row (drop r.next input) → r.bound ≡ next_edge row
-      → after ≡ set (set (set (set before (3 * i) (get_or row 1 0)) (3 * i + 1) (get_or row 2 0)) (3 * i + 2) (get_or row 3 0)) (marks_at v + i) (get_or row 4 0)
-      → TakesPoint input from bound i v before r after
+pub record PointTaken (input : List ℕ) (from bound i v : ℕ) (before : List ℕ) (next least : ℕ) (after : List ℕ) : Type 0 where
+  pub row : List ℕ
+  pub read : read_point bound (drop from input) ≡ got row (drop next input)
+  pub above : least ≡ next_edge row
+  pub stored : after ≡ set (set (set (set before (3 * i) (get_or row 1 0)) (3 * i + 1) (get_or row 2 0)) (3 * i + 2) (get_or row 3 0)) (marks_at v + i) (get_or row 4 0)
+
+abbrev pub TakesPoint : List ℕ → ℕ → ℕ → ℕ → ℕ → List ℕ → Option (ℕ × ℕ) → List ℕ → Type 0
+TakesPoint input from bound i v before None after = read_point bound (drop from input) ≡ bad
+TakesPoint input from bound i v before (Some r) after = PointTaken input from bound i v before r.0 r.1 after
 
 -- one triangle's line, its corners stored from `at` on
-pub data TakesTriangle (input : List ℕ) (from at : ℕ) (before : List ℕ) (r : Taken) (after : List ℕ) : Type 0 where
-  no_triangle : r.ok ≡ false → read_triangle (drop from input) ≡ bad → TakesTriangle input from at before r after
-  corners : r.ok ≡ true → (row : List ℕ) → read_triangle (drop from input) ≡ got row (drop r.next input)
-      → after ≡ set (set (set before at (get_or row 0 0)) (at + 1) (get_or row 1 0)) (at + 2) (get_or row 2 0) → TakesTriangle input from at before r after
+pub record TriangleTaken (input : List ℕ) (from at : ℕ) (before : List ℕ) (next : ℕ) (after : List ℕ) : Type 0 where
+  pub row : List ℕ
+  pub read : read_triangle (drop from input) ≡ got row (drop next input)
+  pub stored : after ≡ set (set (set before at (get_or row 0 0)) (at + 1) (get_or row 1 0)) (at + 2) (get_or row 2 0)
 
--- a pass over lines answers the first that is malformed, or 0 and the place behind them
-pub data Passes {A : Type 0} (read : Lined A) (input : List ℕ) (line next : ℕ) (Left : A → Type 0) : Type 0 where
-  stops : read ≡ wrong line → (line ≡ 0 → ⊥) → Passes read input line next Left
-  goes : (a : A) → read ≡ lined a (drop next input) → line ≡ 0 → Left a → Passes read input line next Left
+abbrev pub TakesTriangle : List ℕ → ℕ → ℕ → List ℕ → Option ℕ → List ℕ → Type 0
+TakesTriangle input from at before None after = read_triangle (drop from input) ≡ bad
+TakesTriangle input from at before (Some next) after = TriangleTaken input from at before next after
+
+-- a pass over lines answers the place behind them, or the first that is malformed
+pub record Goes {A : Type 0} (read : Lined A) (input : List ℕ) (next : ℕ) (Left : A → Type 0) : Type 0 where
+  pub all : A
+  pub lines : read ≡ lined all (drop next input)
+  pub left : Left all
+
+abbrev pub Passes : {A : Type 0} → Lined A → List ℕ → Result ℕ ℕ → (A → Type 0) → Type 0
+Passes read input (Err line) Left = read ≡ wrong line
+Passes read input (Ok next) Left = Goes read input next Left
 
 -- nothing is said of what the lines leave
 abbrev pub Anything : Type 0
@@ -73,7 +85,7 @@ pub record Formed (c : Counts) (input : List ℕ) (from next : ℕ) (work : List
   pub marks_there : part_of (marks_at c.points) c.points work ≡ (mesh_of vs ts shells).marks
   pub triangles_there : part_of (triangles_at c.points) (3 * c.triangles) work ≡ (mesh_of vs ts shells).triangles
 
--- the pass over them: a malformed line, or all of that, with the place where the `S` lines begin
-pub data Forms (c : Counts) (input : List ℕ) (from line next : ℕ) (work : List ℕ) : Type 0 where
-  malformed : read_lines_of c (drop from input) ≡ wrong line → (line ≡ 0 → ⊥) → Forms c input from line next work
-  formed : line ≡ 0 → Formed c input from next work → Forms c input from line next work
+-- the pass over them: all of that, with the place where the `S` lines begin, or a malformed line
+abbrev pub Forms : Counts → List ℕ → ℕ → Result ℕ ℕ → List ℕ → Type 0
+Forms c input from (Err line) work = read_lines_of c (drop from input) ≡ wrong line
+Forms c input from (Ok next) work = Formed c input from next work
