@@ -1,15 +1,15 @@
 -- The lines of the points read once more, one after the other: each is there, and says the numbers of its point.
 use mathlib.Core.Path.{◌≡◌, ap, sym, ◌∙◌}
 use mathlib.Core.List.{List, [], map}
-use mathlib.Core.Bool.{Bool}
-use Prim.Native.Nat.{ℕ, ◌+◌, ◌-◌, ◌^◌, ◌≤◌, ◌<◌}
+use Prim.Native.Nat.{ℕ, ◌+◌, ◌-◌, ◌≤◌, ◌<◌}
 use native.Mathlib.Omega.{arith}
 use lib.ListN.{length, get_or, drop, length-drop, length-map, get_or-map}
-use Rattle.reading.specs.Answers.{got_at}
-use Rattle.reading.proofs.Again.{lines_many, Again as LinesAgain, again_begin as lines_begin, again_answer as lines-answer, again_said as lines-said, again_next as lines_next}
-use Rattle.meshread.specs.Lines.{edge_of, next_edge, read_point}
+use Rattle.std.specs.Prelude.{Option, IsSome}
+use Rattle.reading.specs.Reading.{got}
+use Rattle.reading.specs.Answers.{answered}
+use Rattle.reading.proofs.Again.{lines_many, Again as LinesAgain, again_begin as lines_begin, again_some as lines_some, again_said as lines_said, again_next as lines_next}
+use Rattle.meshread.specs.Lines.{next_edge, read_point}
 use Rattle.meshform.specs.Form.{point_lines}
-use Rattle.meshform.proofs.Bounds.{read_edge_small}
 use Rattle.sameshells.specs.Same.{said_of}
 use Rattle.filling.specs.Filled.{PointsThere}
 
@@ -38,14 +38,14 @@ module _ (input : List ℕ) (from v i at bound : ℕ) (a : Again input from v i 
     pub again_inside : (f : List ℕ → ℕ) → i < length (map f (rows_at input from v))
     again_inside f = omega (arith, less, rows_left f)
 
-    -- what a reader of the line answers
-    module _ (ok : Bool) (row : List ℕ) (next : ℕ) (h : read_point bound (drop at input) ≡ got_at input ok row next) where
-      pub again_small : edge_of row < 2 ^ 32
-      again_small = read_edge_small bound row (drop at input) (drop next input) (lines-answer read_point next_edge input v (rows_at input from v) [] i at bound a less ok row next h)
+    pub again_some : (r : Option (List ℕ × ℕ)) → read_point bound (drop at input) ≡ answered input r → IsSome r
+    again_some = lines_some read_point next_edge input v (rows_at input from v) [] i at bound a less
 
+    -- what a reader of the line answers
+    module _ (row : List ℕ) (next : ℕ) (h : read_point bound (drop at input) ≡ got row (drop next input)) where
       -- one number of it
       pub again_at : (f : List ℕ → ℕ) → f row ≡ get_or (map f (rows_at input from v)) i (f [])
-      again_at f = ap f (sym (lines-said read_point next_edge input v (rows_at input from v) [] i at bound a less ok row next h)) ∙ sym (get_or-map f (rows_at input from v) i [])
+      again_at f = ap f (sym (lines_said read_point next_edge input v (rows_at input from v) [] i at bound a less row next h)) ∙ sym (get_or-map f (rows_at input from v) i [])
 
       pub again_next : Again input from v (i + 1) next (next_edge row)
-      again_next = lines_next read_point next_edge input v (rows_at input from v) [] i at bound a less ok row next h
+      again_next = lines_next read_point next_edge input v (rows_at input from v) [] i at bound a less row next h

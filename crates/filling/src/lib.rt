@@ -10,7 +10,6 @@ ghost use Rattle.filling.specs.Filled.{PointsThere, MarksFit, Fillable, ListsFil
 
 use judge::Judged;
 use meshrows::read_point;
-use rooms::{clear, copy};
 
 // Reads the lines of all points once more: their grid edges and marks go to the rooms. Each line is known to be well formed.
 fn fill_points(input: &[u8], from: usize, v: usize, edges: &mut [u32], marks: &mut [u8])
@@ -21,15 +20,12 @@ fn fill_points(input: &[u8], from: usize, v: usize, edges: &mut [u32], marks: &m
 {
     let mut at = from;
     let mut bound = 0;
-    let mut i = 0;
-    while i < v {
-        let line = read_point(input, at, bound);
-        let numbers = line.numbers;
+    for i in 0..v {
+        let (numbers, next) = read_point(input, at, bound).unwrap();
         edges[i] = numbers[0];
         marks[i] = numbers[4] as u8;
-        at = line.next;
+        at = next;
         bound = (numbers[0] as u64) + 1;
-        i += 1;
     }
 }
 
@@ -50,8 +46,8 @@ pub fn fill_lists(
     let from = judged.points_at;
     let coordinates = 3 * v;
     let corners = 3 * (judged.triangles as usize);
-    copy(0, work, &mut points[..coordinates]);
-    copy(4 * v, work, &mut triangles[..corners]);
+    points[..coordinates].copy_from_slice(&work[..coordinates]);
+    triangles[..corners].copy_from_slice(&work[4 * v..4 * v + corners]);
     fill_points(input, from, v, edges, marks);
-    clear(work);
+    work.fill(0);
 }

@@ -10,13 +10,13 @@ use borrow.Author.Tests.{ne_eqb, ltb-false, eqb-true}
 use Rattle.grid.specs.Limits.{most_points, most_triangles}
 use Rattle.mesh.specs.Check.{mesh_number}
 use Rattle.reading.specs.Reading.{got, bad}
-use Rattle.reading.specs.Lined.{lined, following, read_end}
+use Rattle.reading.specs.Lined.{wrong, lined, following, read_end}
 use Rattle.columns.specs.Room.{work_length, points_in, marks_in, triangles_in}
 use Rattle.meshread.specs.Lines.{Counts, read_counts}
 use Rattle.meshread.specs.Mesh.{Mesh, read_lines_of}
 use Rattle.meshread.specs.Promise.{Lengths, point_room, triangle_room, room_number, Said, refusal, mesh, with_mesh, with_lines, with_counts, said}
 use Rattle.meshread.proofs.OneRead.{never_said}
-use Rattle.meshform.specs.Form.{counts_for, Forms, malformed, formed}
+use Rattle.meshform.specs.Form.{counts_for, Formed}
 use Rattle.judge.specs.declared.Judged.{Judged}
 use Rattle.judge.specs.Judged.{refused_with, Standing, mesh_in, JudgesSaid, refused_early, others_shells, taken, JudgesMesh}
 
@@ -52,42 +52,32 @@ mesh_zeroes m number line zeroed e = go (eqb (mesh_number m.points m.triangles m
     go false h = cc
 
 -- the lines behind line 1
+pub lines_refuse : (c : Counts) (bs : List ℕ) (line : ℕ) → read_lines_of c bs ≡ wrong line → with_lines (read_lines_of c bs) ≡ refusal 15 line true
+unfolding with_lines
+lines_refuse c bs line e = ap with_lines e
+
 module _ (v t shells : ℕ) (input : List ℕ) (from : ℕ) (old : List ℕ) (few : v ≤ most_points) (triangles_few : t ≤ most_triangles) (shells_few : shells < 2 ^ 32) (whole : length old ≡ work_length v t)
-    (line next : ℕ) (work : List ℕ) (long : length work ≡ length old) (p : Forms (counts_for v t shells) input from line next work) where
-  pub lines_refuse : (line ≡ 0 → ⊥) → with_lines (read_lines_of (counts_for v t shells) (drop from input)) ≡ refusal 15 line true
+    (next : ℕ) (work : List ℕ) (long : length work ≡ length old) (f : Formed (counts_for v t shells) input from next work) where
+  pub standing : Standing v t shells input from next work
+  standing = record { whole = long ∙ whole; few = few; triangles_few = triangles_few; shells_few = shells_few; lines = f }
+
+  lines_say : read_lines_of (counts_for v t shells) (drop from input) ≡ lined (mesh_in standing) []
+  unfolding read_lines_of following read_end
+  lines_say = let l = standing.lines in rw (l.points_read, l.triangles_read, l.shells_read)
+
+  pub lines_go_on : (r : Judged) (after : List ℕ) → JudgesMesh v t shells input from next work r after → JudgesSaid (with_lines (read_lines_of (counts_for v t shells) (drop from input))) input old r after
   unfolding with_lines
-  lines_refuse n = go p
+  lines_go_on r after j = subst (λ s. JudgesSaid s input old r after) (ap with_lines (sym lines_say)) (go (j standing))
     where
-      go : Forms (counts_for v t shells) input from line next work → with_lines (read_lines_of (counts_for v t shells) (drop from input)) ≡ refusal 15 line true
-      go (malformed e m) = ap with_lines e
-      go (formed z f) = absurd (n z)
+      zeros : replicate {A = ℕ} (length work) 0 ≡ replicate (length old) 0
+      zeros = ap (λ n. replicate {A = ℕ} n 0) long
 
-  module _ (none : line ≡ 0) where
-    pub standing : Standing v t shells input from next work
-    standing = go p
-      where
-        go : Forms (counts_for v t shells) input from line next work → Standing v t shells input from next work
-        go (malformed e m) = absurd (m none)
-        go (formed z f) = record { whole = long ∙ whole; few = few; triangles_few = triangles_few; shells_few = shells_few; lines = f }
-
-    lines_say : read_lines_of (counts_for v t shells) (drop from input) ≡ lined (mesh_in standing) []
-    unfolding read_lines_of following read_end
-    lines_say = let f = standing.lines in rw (f.points_read, f.triangles_read, f.shells_read)
-
-    pub lines_go_on : (r : Judged) (after : List ℕ) → JudgesMesh v t shells input from next work r after
-        → JudgesSaid (with_lines (read_lines_of (counts_for v t shells) (drop from input))) input old r after
-    unfolding with_lines
-    lines_go_on r after j = subst (λ s. JudgesSaid s input old r after) (ap with_lines (sym lines_say)) (go (j standing))
-      where
-        zeros : replicate {A = ℕ} (length work) 0 ≡ replicate (length old) 0
-        zeros = ap (λ n. replicate {A = ℕ} n 0) long
-
-        go : JudgesSaid (with_mesh (mesh_in standing)) input work r after → JudgesSaid (with_mesh (mesh_in standing)) input old r after
-        go (refused_early zeroed e u z) =
-            let q = mesh_zeroes (mesh_in standing) r.number r.line zeroed e in
-            refused_early true (e ∙ ap (refusal r.number r.line) q) u (z ∙ ap (λ b. cond b (replicate (length work) 0) work) q ∙ zeros)
-        go (others_shells m e found k N d n l u z) = others_shells m e found k N d n l u (z ∙ zeros)
-        go (taken m e found k N w n l g) = taken m e found k N w n l g
+      go : JudgesSaid (with_mesh (mesh_in standing)) input work r after → JudgesSaid (with_mesh (mesh_in standing)) input old r after
+      go (refused_early zeroed e u z) =
+          let q = mesh_zeroes (mesh_in standing) r.number r.line zeroed e in
+          refused_early true (e ∙ ap (refusal r.number r.line) q) u (z ∙ ap (λ b. cond b (replicate (length work) 0) work) q ∙ zeros)
+      go (others_shells m e found k N d n l u z) = others_shells m e found k N d n l u (z ∙ zeros)
+      go (taken m e found k N w n l g) = taken m e found k N w n l g
 
 -- line 1 and the rooms
 module _ (input : List ℕ) (l : Lengths) where

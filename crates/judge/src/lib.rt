@@ -149,11 +149,10 @@ fn judge_lines(
     requires { (v ≤ most_points) × (t ≤ most_triangles) × (shells < 2 ^ 32) × (length work.old ≡ work_length v t) }
     ensures { JudgesSaid (with_lines (read_lines_of (counts_for v t shells) (drop from input.now))) input.now work.old result work.new }
 {
-    let lines = take_lines(input, from, v, t, shells, work);
-    if lines.line != 0 {
-        return refused_later(15, lines.line, work);
+    match take_lines(input, from, v, t, shells, work) {
+        Ok(next) => judge_mesh(input, v, t, shells, from, next, work),
+        Err(line) => refused_later(15, line, work),
     }
-    judge_mesh(input, v, t, shells, from, lines.next, work)
 }
 
 // The refusals in their order, where the rooms have these lengths; or where the mesh is found.
@@ -168,10 +167,9 @@ pub fn judge(
 ) -> Judged
     ensures { Judges input.now (lengths_for points edges marks triangles records (length work.old)) work.old result work.new }
 {
-    let counts = read_counts(input);
-    if !counts.ok {
+    let Some((counts, next)) = read_counts(input) else {
         return refused(15, 1);
-    }
+    };
     let v = counts.points;
     let t = counts.triangles;
     let shells = counts.shells;
@@ -189,12 +187,5 @@ pub fn judge(
     if number != 0 {
         return refused(number, 0);
     }
-    judge_lines(
-        input,
-        v as usize,
-        t as usize,
-        shells as usize,
-        counts.next,
-        work,
-    )
+    judge_lines(input, v as usize, t as usize, shells as usize, next, work)
 }

@@ -1,5 +1,4 @@
 -- The work room as lines are read into it.
 pub mod Rooms
-pub mod Bounds
 pub mod Lines
 pub mod Last

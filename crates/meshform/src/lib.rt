@@ -60,7 +60,13 @@ fn take_points(input: &[u8], from: usize, v: usize, work: &mut [u32]) -> Result<
 }
 
 // Takes the lines of all triangles, behind those of v points.
-fn take_triangles(input: &[u8], from: usize, v: usize, t: usize, work: &mut [u32]) -> Result<usize, u64>
+fn take_triangles(
+    input: &[u8],
+    from: usize,
+    v: usize,
+    t: usize,
+    work: &mut [u32],
+) -> Result<usize, u64>
     requires { (v ≤ most_points) × (t ≤ most_triangles) × (4 * v + 3 * t ≤ length work.old) }
     ensures { Passes (triangle_lines t (2 + v) (drop from input.now)) input.now result (λ ts. work.new ≡ with_triangles v ts work.old) }
 {

@@ -57,7 +57,14 @@ pub fn read_counts(input: &[u8]) -> Option<(Counts, usize)>
 {
     let (numbers, next) = read_numbers::<3>(input, 0, b'M')?;
     let [points, triangles, shells] = numbers;
-    Some((Counts { points, triangles, shells }, next))
+    Some((
+        Counts {
+            points,
+            triangles,
+            shells,
+        },
+        next,
+    ))
 }
 
 // Is an edge number not below the bound? The bound is one more than the edge number of the line before, so that this is whether bounds rise.

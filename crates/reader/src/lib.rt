@@ -26,20 +26,19 @@ pub struct Counts {
 pub fn read_counts(input: &[u8]) -> Counts
     ensures { result ≡ counts_answered input.now }
 {
-    let line = meshrows::read_counts(input);
-    if !line.ok {
+    let Some((counts, _)) = meshrows::read_counts(input) else {
         return Counts {
             number: 15,
             points: 0,
             triangles: 0,
             shells: 0,
         };
-    }
+    };
     Counts {
         number: 0,
-        points: line.points,
-        triangles: line.triangles,
-        shells: line.shells,
+        points: counts.points,
+        triangles: counts.triangles,
+        shells: counts.shells,
     }
 }
 

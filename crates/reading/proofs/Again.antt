@@ -5,7 +5,9 @@ use Prim.Native.Nat.{ℕ, zero, suc, ◌+◌, ◌-◌, ◌≤◌, ◌<◌}
 use native.Mathlib.Omega.{arith}
 use lib.ListN.{length, get_or, drop}
 use lib.Seq.{get_or-drop, drop-drop}
-use Rattle.reading.specs.Reading.{Got, bad, got}
+use Rattle.std.specs.Prelude.{Option, Some, None, IsSome}
+use Rattle.reading.specs.Reading.{Got, got}
+use Rattle.reading.specs.Answers.{answered}
 use Rattle.reading.specs.Lined.{lined, following, read_line, read_lines}
 use Rattle.reading.proofs.Digits.{never}
 use Rattle.reading.proofs.Exact.{got_value, got_rest}
@@ -62,10 +64,12 @@ module _ {A : Type 0} (one : ℕ → List ℕ → Got A) (next : A → ℕ) wher
           let e : count - n ≡ suc (count - (n + 1)) = omega arith in
           first_line (count - (n + 1)) bound g.line (drop at input) (drop n said) g.behind (rw e at g.left)
 
-      pub again_there : one bound (drop at input) ≡ bad → ⊥
-      again_there e = never (sym e ∙ found.here)
+      -- a reader of the line answers something
+      pub again_some : (r : Option (A × ℕ)) → one bound (drop at input) ≡ answered input r → IsSome r
+      again_some None e = never (sym e ∙ found.here)
+      again_some (Some x) e = refl
 
-      -- what a reader of the line answers
+      -- and that is what was said
       module _ (a : A) (place : ℕ) (h : one bound (drop at input) ≡ got a (drop place input)) where
         pub again_said : get_or said n d ≡ a
         again_said =

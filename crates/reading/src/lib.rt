@@ -117,7 +117,13 @@ pub fn read_fields(input: &[u8], from: usize, more: usize, room: &mut [u32]) -> 
 }
 
 // Reads a line of `count` numbers of 16 bits into the room from `base` on, and answers the place behind it.
-pub fn read_row(input: &[u8], from: usize, count: usize, room: &mut [u16], base: usize) -> Option<usize>
+pub fn read_row(
+    input: &[u8],
+    from: usize,
+    count: usize,
+    room: &mut [u16],
+    base: usize,
+) -> Option<usize>
     requires { base + count ≤ length room.old }
     ensures line { read_row most_number count (drop from input.now) ≡ answered_line input.now result (take count (drop base room.new)) }
     ensures kept { take base room.new ≡ take base room.old }
@@ -132,7 +138,13 @@ pub fn read_row(input: &[u8], from: usize, count: usize, room: &mut [u16], base:
 }
 
 // Reads `count` lines of `width` numbers to the end of the input into the room; or answers the first malformed line, where the first is line 2.
-pub fn read_rows(input: &[u8], from: usize, width: usize, count: u32, room: &mut [u16]) -> Result<(), u32>
+pub fn read_rows(
+    input: &[u8],
+    from: usize,
+    width: usize,
+    count: u32,
+    room: &mut [u16],
+) -> Result<(), u32>
     requires { (width * count ≤ length room.old) × (count + 2 < 2 ^ 32) }
     ensures { read_rows most_number width count 2 (drop from input.now) ≡ answered_rows result (take (width * count) room.new) }
 {

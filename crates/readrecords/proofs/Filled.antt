@@ -16,8 +16,6 @@ use Rattle.records.specs.Grown.{none}
 use Rattle.meshread.specs.Lines.{read_shell}
 use Rattle.sameshells.specs.Same.{said_of, shells_at, LinesThere}
 use Rattle.reading.proofs.Again.{lines_many}
-use Rattle.sameshells.proofs.Compared.{Again, again_shell, again_next}
-use Rattle.readrecords.specs.Put.{Puts}
 
 pub none_many : (input : List ℕ) (from : ℕ) → length (shells_at input from 0) ≡ 0
 unfolding said_of read_lines
@@ -37,19 +35,6 @@ module _ (input : List ℕ) (from shells : ℕ) where
   -- the shell that line n says
   abbrev pub shell_said : ℕ → Shell
   shell_said n = get_or (shells_at input from shells) n none
-
-  -- some lines are read, and while one is left the next one stands at a place
-  module _ (done at : ℕ) (again : Again input from shells done at) (less : done < shells) (before after : List Shell) (behind : ℕ) (p : Puts input at done before behind after) where
-    pub further : Again input from shells (done + 1) behind
-    further =
-        let s = p.line in
-        subst (Again input from shells (done + 1)) (sym p.next) (again_next input from shells done at again less s.ok s.shell s.next p.read)
-
-    said_here : shell_said done ≡ p.line.shell
-    said_here = let s = p.line in again_shell input from shells done at again less s.ok s.shell s.next p.read
-
-    pub put_said : after ≡ set before done (shell_said done)
-    put_said = p.stored ∙ ap (set before done) (sym said_here)
 
   module _ (ys : List Shell) where
     -- the list after n lines

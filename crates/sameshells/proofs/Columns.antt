@@ -24,9 +24,6 @@ module _ (shells v t : ℕ) (old : List ℕ) (stands : StandsIn shells v t old) 
   column_none = record { column = []; short = omega arith; stays = refl }
 
   module _ (work : List ℕ) (left : ColumnLeft v t shells old work) where
-    pub long_left : length work ≡ length old
-    long_left = ap length left.stays ∙ length-sets old (column_at v t) left.column
-
     pub same_left : SameMesh v t old work
     same_left = subst (SameMesh v t old) (sym left.stays) (column_leaves v t old left.column (omega (arith, left.short, inside)))
 

@@ -13,7 +13,7 @@ use meshrows::read_shell;
 // The fields of a shell but its volume.
 const KINDS: u32 = 10;
 
-// Is one field of every shell what stands from a place of the room on?
+// Is one field of every shell what stands from a place of the room on? Each line is known to be well formed.
 fn same_column(
     input: &[u8],
     from: usize,
@@ -26,14 +26,12 @@ fn same_column(
     ensures { Decides result (SameColumn (shells_at input.now from shells) shells kind work.now column) }
 {
     let mut at = from;
-    let mut n = 0;
-    while n < shells {
-        let line = read_shell(input, at);
-        if columns::field_of(line.shell, kind) != work[column + n] {
+    for n in 0..shells {
+        let (shell, next) = read_shell(input, at).unwrap();
+        if columns::field_of(shell, kind) != work[column + n] {
             return false;
         }
-        at = line.next;
-        n += 1;
+        at = next;
     }
     true
 }
@@ -52,41 +50,27 @@ fn same_columns(
     ensures left { ColumnLeft v t shells work.old work.new }
 {
     let column = 5 * v + 3 * t;
-    let mut kind = 0;
-    while kind < KINDS {
+    for kind in 0..KINDS {
         columns::gather(work, v, t, shells, kind);
         if !same_column(input, from, shells, kind, work, column) {
             return false;
         }
-        kind += 1;
     }
     true
 }
 
-// Are two signed numbers the same?
-fn equal(a: i64, b: i64) -> bool
-    ensures { Decides result (a ≡ b) }
-{
-    if a == b {
-        return true;
-    }
-    false
-}
-
-// Is the volume of every shell what its two words in the room hold?
+// Is the volume of every shell what its two words in the room hold? Each line is known to be well formed.
 fn same_words(input: &[u8], from: usize, shells: usize, work: &[u32], v: usize, t: usize) -> bool
     requires { LinesThere input.now from shells × WordsThere shells v t work.now }
     ensures { Decides result (SameVolumes (shells_at input.now from shells) shells (volume_read v t work.now)) }
 {
     let mut at = from;
-    let mut n = 0;
-    while n < shells {
-        let line = read_shell(input, at);
-        if !equal(line.shell.volume, volumes::volume_at(work, v, t, n)) {
+    for n in 0..shells {
+        let (shell, next) = read_shell(input, at).unwrap();
+        if shell.volume != volumes::volume_at(work, v, t, n) {
             return false;
         }
-        at = line.next;
-        n += 1;
+        at = next;
     }
     true
 }

@@ -5,14 +5,20 @@ use lib.ListN.{replicate}
 use Rattle.judge.proofs.Steps.{refuses, lines_refuse, standing, lines_go_on}
 use Rattle.judge.proofs.judge_lines.Goals as goal
 
-pub returns-then-lines-ne0 : goal.returns-then-lines-ne0
-returns-then-lines-ne0 c =
-    refuses _ c.args.input.now c.args.work.now c.refused_later.result c.refused_later.new.work 15 c.take_lines-lines.result.line _ c.refused_later.ensures.0 (lines_refuse c.args.v c.args.t c.args.shells c.args.input.now c.args.from c.args.work.now c.requires.0 c.requires.1 c.requires.2 c.requires.3 c.take_lines-lines.result.line c.take_lines-lines.result.next c.take_lines-lines.new.work c.take_lines-lines.auto.work c.take_lines-lines.ensures c.if-lines-ne0.true) (c.refused_later.ensures.1 ∙ ap (λ n. replicate {A = ℕ} n 0) c.take_lines-lines.auto.work)
-
 pub judge_mesh-requires : goal.judge_mesh-requires
 judge_mesh-requires c =
-    standing c.args.v c.args.t c.args.shells c.args.input.now c.args.from c.args.work.now c.requires.0 c.requires.1 c.requires.2 c.requires.3 c.take_lines-lines.result.line c.take_lines-lines.result.next c.take_lines-lines.new.work c.take_lines-lines.auto.work c.take_lines-lines.ensures c.if-lines-ne0.false
+    let a = c.args in
+    let q = c.requires in
+    standing a.v a.t a.shells a.input.now a.from a.work.now q.0 q.1 q.2 q.3 c.in-Ok.next c.take_lines.new.work c.take_lines.auto.work c.in-Ok.ensures
 
-pub returns : goal.returns
-returns c =
-    lines_go_on c.args.v c.args.t c.args.shells c.args.input.now c.args.from c.args.work.now c.requires.0 c.requires.1 c.requires.2 c.requires.3 c.take_lines-lines.result.line c.take_lines-lines.result.next c.take_lines-lines.new.work c.take_lines-lines.auto.work c.take_lines-lines.ensures c.if-lines-ne0.false c.judge_mesh.result c.judge_mesh.new.work c.judge_mesh.ensures
+pub returns-in-Ok : goal.returns-in-Ok
+returns-in-Ok c =
+    let a = c.args in
+    let q = c.requires in
+    lines_go_on a.v a.t a.shells a.input.now a.from a.work.now q.0 q.1 q.2 q.3 c.in-Ok.next c.take_lines.new.work c.take_lines.auto.work c.in-Ok.ensures c.judge_mesh.result c.judge_mesh.new.work c.judge_mesh.ensures
+
+pub returns-in-Err : goal.returns-in-Err
+returns-in-Err c =
+    let a = c.args in
+    refuses _ a.input.now a.work.now c.refused_later.result c.refused_later.new.work 15 c.in-Err.line _ c.refused_later.ensures.0 (lines_refuse _ _ _ c.in-Err.ensures)
+    (c.refused_later.ensures.1 ∙ ap (λ n. replicate {A = ℕ} n 0) c.take_lines.auto.work)

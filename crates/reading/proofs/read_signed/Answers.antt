@@ -41,6 +41,6 @@ returns c =
     let f = c.in_ok-size in
     rw (c.excess.ensures, to_z-of_z {w = w64} (difference_fits 0 f.size (omega arith) (omega (arith, f.ensures.within))))
     (reads _ _
-        (minus_at _ _ c.args.input.now _ (omega arith) c.if-input-from-ne45.false ∙ ap (after negated) f.ensures.same ∙ negated_got f.size _ c.if-size-eq0.false)
-        (size_between 0 f.size _ (omega arith) (omega (arith, f.ensures.within)))
-        f.ensures.inside)
+    (minus_at _ _ c.args.input.now _ (omega arith) c.if-input-from-ne45.false ∙ ap (after negated) f.ensures.same ∙ negated_got f.size _ c.if-size-eq0.false)
+    (size_between 0 f.size _ (omega arith) (omega (arith, f.ensures.within)))
+    f.ensures.inside)

@@ -1,24 +1,12 @@
 -- `sameshells::same_columns` meets its contract: the fields of the kinds passed are those of the records.
-use mathlib.Core.Path.{refl, sym, ◌∙◌}
+use mathlib.Core.Path.{sym, ◌∙◌}
 use mathlib.Core.Bool.{true≢false, false≢true}
 use native.Mathlib.Omega.{arith}
 use Rattle.columns.specs.Room.{record_in}
 use Rattle.sameshells.specs.Same.{shells_at, SameField}
 use Rattle.sameshells.proofs.Compared.{below_next}
-use Rattle.sameshells.proofs.Columns.{column_none, long_left, stands_left, column_next, column_inside, field_same, field_not}
+use Rattle.sameshells.proofs.Columns.{stands_left, column_next, column_inside, field_same, field_not}
 use Rattle.sameshells.proofs.same_columns.Goals as goal
-
-pub overflow_mul-column : goal.overflow_mul-column
-overflow_mul-column c = omega (arith, c.requires.1.whole)
-
-pub overflow_mul-column-2 : goal.overflow_mul-column-2
-overflow_mul-column-2 c = omega (arith, c.requires.1.whole)
-
-pub overflow_add-column : goal.overflow_add-column
-overflow_add-column c = omega (arith, c.requires.1.whole)
-
-pub loop-kind-init : goal.loop-kind-init
-loop-kind-init c = (column_none c.args.shells c.args.v c.args.t c.args.work.now c.requires.1, λ k l. absurd (omega arith), refl, omega arith)
 
 pub gather-requires : goal.gather-requires
 gather-requires c =
@@ -27,10 +15,6 @@ gather-requires c =
 pub same_column-requires : goal.same_column-requires
 same_column-requires c =
     (c.requires.0, column_inside c.args.shells c.args.v c.args.t c.args.work.now c.requires.1 c.loop-kind.work c.loop-kind.invariant.0 c.loop-kind.kind c.gather.new.work c.gather.ensures)
-
-pub shape_of-work-then-not-same_column : goal.shape_of-work-then-not-same_column
-shape_of-work-then-not-same_column c =
-    c.gather.auto.work ∙ long_left c.args.shells c.args.v c.args.t c.args.work.now c.requires.1 c.loop-kind.work c.loop-kind.invariant.0
 
 pub returns-then-not-same_column : goal.returns-then-not-same_column
 returns-then-not-same_column c =
@@ -47,13 +31,4 @@ loop-kind-preserved c = (
   column_next c.args.shells c.args.v c.args.t c.args.work.now c.requires.1 c.loop-kind.work c.loop-kind.invariant.0 c.loop-kind.kind c.gather.new.work c.gather.ensures,
   below_next c.loop-kind.kind (λ k. SameField (shells_at c.args.input.now c.args.from c.args.shells) c.args.shells k (record_in c.args.v c.args.t c.args.work.now)) c.loop-kind.invariant.1
       (field_same c.args.shells c.args.v c.args.t c.args.work.now c.requires.1 c.loop-kind.work c.loop-kind.invariant.0 c.loop-kind.kind c.gather.new.work c.gather.ensures (shells_at c.args.input.now c.args.from c.args.shells) c.same_column.result c.same_column.ensures (c.if-not-same_column.false)),
-  c.loop-kind.invariant.2,
-  omega arith,
 )
-
-pub shape_of-work : goal.shape_of-work
-shape_of-work c =
-    long_left c.args.shells c.args.v c.args.t c.args.work.now c.requires.1 c.loop-kind.work c.loop-kind.invariant.0
-
-pub returns : goal.returns
-returns c = record { same = record { yes = λ e kind m. c.loop-kind.invariant.1 kind (omega (arith, c.loop-kind.invariant.3)); so = λ same. refl }; left = c.loop-kind.invariant.0 }

@@ -1,13 +1,9 @@
 -- `sameshells::same_columns` meets its contract: the fields of the kinds passed are those of the records.
-use mathlib.Core.Path.{◌≡◌}
-use Prim.Native.Nat.{ℕ, ◌-◌, ◌<◌, ◌≤◌}
-use Rattle.columns.specs.Room.{column_at, record_in}
+use Prim.Native.Nat.{ℕ, ◌<◌}
+use Rattle.columns.specs.Room.{record_in}
 use Rattle.sameshells.specs.Same.{shells_at, SameField, ColumnLeft}
 use Rattle.sameshells.proofs.same_columns.Given as goal
 
 abbrev pub invariant-loop-kind : goal.invariant-loop-kind
 invariant-loop-kind l =
-    ColumnLeft l.v l.t l.shells l.initial.work l.work × ((k : ℕ) → k < l.kind → SameField (shells_at l.input l.from l.shells) l.shells k (record_in l.v l.t l.initial.work)) × (l.column ≡ column_at l.v l.t) × (l.kind ≤ 10)
-
-abbrev pub decreases-loop-kind : goal.decreases-loop-kind
-decreases-loop-kind l = 10 - l.kind
+    ColumnLeft l.v l.t l.shells l.initial.work l.work × ((k : ℕ) → k < l.kind → SameField (shells_at l.input l.from l.shells) l.shells k (record_in l.v l.t l.initial.work))
