@@ -32,6 +32,7 @@ pub fn place_of(points: &[u32], p: usize) -> Place
 }
 
 // Are there three coordinates a point and three numbers a triangle, and not too many of either?
+#[tactic(auto, unfolding(crate::specs::Check::lengths_fit), using(std::proofs::lemmas::Bool::Decides::nat_tests))]
 pub fn lengths_fit(points: usize, triangles: usize, v: usize) -> bool
     ensures { result ≡ lengths_fit points triangles v }
 {
@@ -48,6 +49,7 @@ pub fn lengths_fit(points: usize, triangles: usize, v: usize) -> bool
 }
 
 // Three different numbers below v?
+#[tactic(auto, unfolding(crate::specs::Check::names_three), using(std::proofs::lemmas::Bool::Decides::nat_tests))]
 fn names_three(a: u32, b: u32, c: u32, v: usize) -> bool
     ensures { result ≡ names_three v (triangle a b c) }
 {
@@ -70,18 +72,15 @@ fn names_three(a: u32, b: u32, c: u32, v: usize) -> bool
 }
 
 // Does each triangle name three different points below v?
+#[tactic(auto, unfolding(crate::specs::Check::triangles_fit), using(crate::proofs::Places::all_steps))]
 pub fn triangles_fit(triangles: &[u32], v: usize) -> bool
     ensures { result ≡ triangles_fit triangles.now v }
 {
-    let count = triangles.len() / 3;
-    let mut i = 0;
-    let mut at = 0;
-    while i < count {
+    for i in 0..triangles.len() / 3 {
+        let at = 3 * i;
         if !names_three(triangles[at], triangles[at + 1], triangles[at + 2], v) {
             return false;
         }
-        at += 3;
-        i += 1;
     }
     true
 }
@@ -90,31 +89,11 @@ pub fn triangles_fit(triangles: &[u32], v: usize) -> bool
 pub fn all_within(numbers: &[u32], most: u32) -> bool
     ensures { result ≡ all_within most numbers.now }
 {
-    let mut i = 0;
-    while i < numbers.len() {
-        if numbers[i] > most {
-            return false;
-        }
-        i += 1;
-    }
-    true
-}
-
-// Is each mark 0 or 1?
-fn marks_fit(marks: &[u8]) -> bool
-    ensures { result ≡ all_within 1 marks.now }
-{
-    let mut i = 0;
-    while i < marks.len() {
-        if marks[i] > 1 {
-            return false;
-        }
-        i += 1;
-    }
-    true
+    numbers.iter().all(|x| *x <= most)
 }
 
 // The first of the numbers 6, 7, 8, 9 that holds of a mesh, or 0.
+#[tactic(auto, unfolding(crate::specs::Check::mesh_number))]
 pub fn check(points: &[u32], triangles: &[u32], marks: &[u8]) -> u32
     ensures { Checked points.now triangles.now marks.now result }
 {
@@ -128,7 +107,7 @@ pub fn check(points: &[u32], triangles: &[u32], marks: &[u8]) -> u32
     if !all_within(points, MOST_COORDINATE) {
         return 8;
     }
-    if !marks_fit(marks) {
+    if !marks.iter().all(|mark| *mark <= 1) {
         return 9;
     }
     0
