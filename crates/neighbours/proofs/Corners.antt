@@ -4,15 +4,14 @@ use mathlib.Core.List.{List, ◌++◌, append_assoc}
 use Prim.Native.Nat.{ℕ, ◌+◌, ◌*◌, ◌<◌, ◌≤◌}
 use native.Mathlib.Omega.{arith}
 use lib.Dec.{eqb}
-use lib.ListN.{length, get_or, replicate, length-append, length-replicate}
+use lib.ListN.{length, get_or, length-append}
 use borrow.Author.Tests.{ne_eqb}
 use Rattle.laws.specs.Range.{sum_to, join_to}
 use Rattle.laws.proofs.Ranges.{join_next, length_join, sum_rises, sum_cong, count_none}
-use Rattle.laws.proofs.Rooms.{zeros_at}
 use Rattle.grid.specs.Limits.{most_triangles}
 use Rattle.mesh.specs.Mesh.{triangle_count, triangle_at}
 use Rattle.neighbours.specs.Lists.{two_if, others, bucket_to, bucket, ListsFit}
-use Rattle.neighbours.specs.Steps.{AllBelow, From, HoldsTo, StampsBelow, size_to, begin_of, Filled, put_two}
+use Rattle.neighbours.specs.Steps.{From, HoldsTo, StampsBelow, size_to, begin_of, Filled, put_two}
 use Rattle.neighbours.proofs.Sized.{bucket_size, entries_taken}
 use Rattle.neighbours.proofs.Filled.{place_free, put_filled, put_stamps, length_put}
 
@@ -35,12 +34,12 @@ pub record Stage (ts : List ℕ) (v at size : ℕ) (entries : ℕ → List ℕ) 
 abbrev with_two : (ℕ → List ℕ) → ℕ → ℕ → ℕ → ℕ → List ℕ
 with_two entries p q r k = entries k ++ two_if (eqb p k) q r
 
--- the buckets when the first of triangle i's corners has put, and the second; the corners stand from place k on
-abbrev pub after_one : List ℕ → ℕ → ℕ → ℕ → List ℕ
-after_one ts i k = with_two (bucket_to ts i) (get_or ts k 0) (get_or ts (k + 1) 0) (get_or ts (k + 2) 0)
+-- the buckets when the first of triangle i's corners has put, and the second
+abbrev after_one : List ℕ → ℕ → ℕ → List ℕ
+after_one ts i = with_two (bucket_to ts i) (get_or ts (3 * i) 0) (get_or ts (3 * i + 1) 0) (get_or ts (3 * i + 2) 0)
 
-abbrev pub after_two : List ℕ → ℕ → ℕ → ℕ → List ℕ
-after_two ts i k = with_two (after_one ts i k) (get_or ts (k + 1) 0) (get_or ts (k + 2) 0) (get_or ts k 0)
+abbrev after_two : List ℕ → ℕ → ℕ → List ℕ
+after_two ts i = with_two (after_one ts i) (get_or ts (3 * i + 1) 0) (get_or ts (3 * i + 2) 0) (get_or ts (3 * i) 0)
 
 module _ (ts : List ℕ) (v at size : ℕ) (ok : ListsFit ts v at size) where
   abbrev Fits : (ℕ → List ℕ) → Type 0
@@ -68,33 +67,33 @@ module _ (ts : List ℕ) (v at size : ℕ) (ok : ListsFit ts v at size) where
           stamps = put_stamps ts v at taken entries p q r work l in_room fits h.filled 1 h.stamps;
         })
 
-  -- one triangle, whose corners stand from place k on
-  module _ (i k : ℕ) (is : k ≡ 3 * i) (l : i < triangle_count ts) where
+  -- one triangle
+  module _ (i : ℕ) (l : i < triangle_count ts) where
     abbrev a : ℕ
-    a = get_or ts k 0
+    a = get_or ts (3 * i) 0
 
     abbrev b : ℕ
-    b = get_or ts (k + 1) 0
+    b = get_or ts (3 * i + 1) 0
 
     abbrev c : ℕ
-    c = get_or ts (k + 2) 0
+    c = get_or ts (3 * i + 2) 0
 
     -- the buckets after no corner, one, two and all three
     abbrev none : ℕ → List ℕ
     none = bucket_to ts i
 
     abbrev one : ℕ → List ℕ
-    one = after_one ts i k
+    one = after_one ts i
 
     abbrev two : ℕ → List ℕ
-    two = after_two ts i k
+    two = after_two ts i
 
     abbrev three : ℕ → List ℕ
     three = with_two two c a b
 
     pub all_three : (p : ℕ) → three p ≡ bucket_to ts (i + 1) p
     unfolding others
-    all_three p = rw (bucket_next ts i p, is, append_assoc, append_assoc)
+    all_three p = rw (bucket_next ts i p, append_assoc, append_assoc)
 
     fits_three : Fits three
     fits_three p = rw (all_three p) (bucket_rises ts (i + 1) p (omega arith))
@@ -105,11 +104,11 @@ module _ (ts : List ℕ) (v at size : ℕ) (ok : ListsFit ts v at size) where
     fits_one : Fits one
     fits_one p = omega (arith, fits_two p, length-append (one p) (two_if (eqb b p) c a))
 
-    corner_below : (j : ℕ) → j < 3 → get_or ts (k + j) 0 < v
-    corner_below j m = ok.named (k + j) (omega (arith, ok.threes))
+    corner_below : (j : ℕ) → j < 3 → get_or ts (3 * i + j) 0 < v
+    corner_below j m = ok.named (3 * i + j) (omega (arith, ok.threes))
 
     a_below : a < v
-    a_below = let e : k + 0 ≡ k = omega arith in rw e at (corner_below 0 (omega arith))
+    a_below = ok.named (3 * i) (omega (arith, ok.threes))
 
     -- the three corners, one after the other
     module _ (w : List ℕ) (h : Holds none w) where
@@ -178,9 +177,3 @@ module _ (ts : List ℕ) (v at size : ℕ) (ok : ListsFit ts v at size) where
       let e : sum_to v (λ p. get_or sized (at + p) 0) ≡ begin_of ts v
       = sum_cong v (λ p. get_or sized (at + p) 0) (λ q. length (bucket ts q)) (λ q n. sizes q ∙ bucket_size ts v at size ok q) in
       (omega (arith, ok.room), (omega (arith, ok.entered, ok.threes, ok.triangles), omega (arith, entries_taken ts v at size ok)))
-
-  -- what counting asks of a room that was cleared
-  pub count_ready : (cleared : List ℕ) → ◌≡◌ {A = List ℕ} cleared (replicate size 0)
-      → (length ts ≤ 3 * most_triangles) × (AllBelow (length ts) (λ k. at + get_or ts k 0) (length cleared) × From at (λ p. 0) cleared)
-  count_ready cleared is =
-      rw is ((omega (arith, ok.threes, ok.triangles), (λ k m. rw (length-replicate {A = ℕ} size 0) (omega (arith, ok.room, ok.named k m)), λ p. zeros_at size (at + p))))

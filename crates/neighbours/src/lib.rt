@@ -18,11 +18,8 @@ fn count(triangles: &[u32], at: usize, work: &mut [u32])
     requires from { From at (λ p. 0) work.old }
     ensures { From at (size_to triangles.now (length triangles.now)) work.new }
 {
-    let mut i = 0;
-    while i < triangles.len() {
-        let place = at + (triangles[i] as usize);
-        work[place] = work[place] + 2;
-        i += 1;
+    for corner in triangles {
+        work[at + *corner as usize] += 2;
     }
 }
 
@@ -35,12 +32,10 @@ fn begin(v: usize, at: usize, work: &mut [u32])
     ensures rest { From (at + v) (λ i. get_or work.old (at + v + i) 0) work.new }
 {
     let mut sum: u32 = 0;
-    let mut p = 0;
-    while p < v {
+    for p in 0..v {
         let size = work[at + p];
         work[at + p] = sum;
         sum += size;
-        p += 1;
     }
 }
 
@@ -68,18 +63,14 @@ fn fill(triangles: &[u32], v: usize, at: usize, work: &mut [u32])
     rooms::clear(work);
     count(triangles, at, work);
     begin(v, at, work);
-    let count = triangles.len() / 3;
-    let mut i = 0;
-    let mut k = 0;
-    while i < count {
+    for i in 0..triangles.len() / 3 {
+        let k = 3 * i;
         let a = triangles[k];
         let b = triangles[k + 1];
         let c = triangles[k + 2];
         put_two(a, b, c, at, work);
         put_two(b, c, a, at, work);
         put_two(c, a, b, at, work);
-        k += 3;
-        i += 1;
     }
 }
 
@@ -102,8 +93,7 @@ fn keep_different(
     ensures stamps { StampsBelow stamps (stamp + 1) work.new }
 {
     let mut kept = to;
-    let mut i = from;
-    while i < end {
+    for i in from..end {
         let q = work[i];
         let place = stamps + (q as usize);
         if work[place] != stamp {
@@ -111,7 +101,6 @@ fn keep_different(
             work[kept] = q;
             kept += 1;
         }
-        i += 1;
     }
     kept
 }
@@ -124,13 +113,11 @@ pub fn list(triangles: &[u32], v: usize, at: usize, work: &mut [u32])
     fill(triangles, v, at, work);
     let mut from = 0;
     let mut to = 0;
-    let mut p = 0;
-    while p < v {
+    for p in 0..v {
         let end = work[at + p] as usize;
         work[at + p] = to as u32;
         to = keep_different(from, end, to, at + v + 1, p as u32 + 1, work);
         from = end;
-        p += 1;
     }
     work[at + v] = to as u32;
 }

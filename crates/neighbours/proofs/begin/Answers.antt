@@ -22,13 +22,8 @@ loop-p-preserved c =
     let a = c.args in
     begun_next a.v a.at a.work.now c.loop-p.p c.loop-p.sum c.loop-p.work c.requires.v_in_bounds (omega arith) c.loop-p.invariant
 
-pub shape_of-work : goal.shape_of-work
-shape_of-work c = c.loop-p.invariant.same
-
-pub returns : goal.returns
-returns c =
-    let a = c.args in record {
-      begun = λ p k. c.loop-p.invariant.done p (omega arith);
-      rest = λ i. ap (λ k. get_or c.loop-p.work k 0) (add_assoc a.at a.v i) ∙ c.loop-p.invariant.rest (a.v + i) (omega arith)
-          ∙ ap (λ k. get_or a.work.now k 0) (sym (add_assoc a.at a.v i));
-    }
+pub returns-clause-rest : goal.returns-clause-rest
+returns-clause-rest c i =
+    let a = c.args in
+    ap (λ k. get_or c.loop-p.work k 0) (add_assoc a.at a.v i) ∙ c.loop-p.invariant.rest (a.v + i) (omega arith)
+    ∙ ap (λ k. get_or a.work.now k 0) (sym (add_assoc a.at a.v i))
