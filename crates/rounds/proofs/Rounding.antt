@@ -4,7 +4,7 @@ use mathlib.Core.List.{List}
 use Prim.Native.Nat.{ℕ, ◌+◌, ◌*◌, ◌-◌, ◌<◌, ◌≤◌}
 use native.Mathlib.Omega.{arith}
 use lib.ListN.{length, get_or}
-use lib.Seq.{sets, length-sets}
+use lib.Seq.{sets}
 use Rattle.laws.specs.Range.{sum_to, join_to}
 use Rattle.laws.specs.Part.{part_of}
 use Rattle.laws.proofs.Ranges.{sum_cong, join_next}
@@ -58,44 +58,35 @@ module _ (marks : List ℕ) (w at second : ℕ) (old work₀ : List ℕ) where
   unfolding held_point
   length_point p = refl
 
-  pub record PlacedTo (p to : ℕ) (work : List ℕ) : Type 0 where
-    pub within : p ≤ length marks
-    pub to_is : to ≡ second + 3 * p
-    pub written : work ≡ sets work₀ second (join_to p point)
+  -- the new places of the first p points are written
+  abbrev pub PlacedTo : ℕ → List ℕ → Type 0
+  PlacedTo p work = work ≡ sets work₀ second (join_to p point)
 
-  pub placed_first : PlacedTo 0 second work₀
+  pub placed_first : PlacedTo 0 work₀
   unfolding join_to
-  placed_first = record { within = omega arith; to_is = omega arith; written = refl }
+  placed_first = refl
 
   length_to : (p : ℕ) → length (join_to p point) ≡ 3 * p
   length_to p = omega (arith, length_rows 3 point length_point p)
 
   module _ (room : at + length marks < second) (fits : second + 3 * length marks ≤ length work₀) (held : Held at work₀ (length marks)) where
-    pub placed_same : (p to : ℕ) (work : List ℕ) → PlacedTo p to work → SameTo second work₀ work
-    placed_same p to work h i l = rw h.written (sets_before work₀ second (join_to p point) i 0 l)
+    pub placed_same : (p : ℕ) (work : List ℕ) → PlacedTo p work → SameTo second work₀ work
+    placed_same p work h i l = rw h (sets_before work₀ second (join_to p point) i 0 l)
 
-    pub placed_long : (p to : ℕ) (work : List ℕ) → PlacedTo p to work → length work ≡ length work₀
-    placed_long p to work h = rw h.written (length-sets work₀ second (join_to p point))
+    pub placed_held : (p : ℕ) (work : List ℕ) → PlacedTo p work → Held at work (length marks)
+    placed_held p work h = held_kept at (length marks) second work₀ work room (placed_same p work h) held
 
-    pub placed_held : (p to : ℕ) (work : List ℕ) → PlacedTo p to work → Held at work (length marks)
-    placed_held p to work h = held_kept at (length marks) second work₀ work room (placed_same p to work h) held
-
-    pub placed_next : (p to : ℕ) (work after : List ℕ) → p < length marks → PlacedTo p to work
-        → after ≡ sets work to (held_point at work (get_or marks p 0) w old p) → PlacedTo (p + 1) (to + 3) after
-    placed_next p to work after l h is =
-        record {
-          within = omega arith;
-          to_is = omega (arith, h.to_is);
-          written =
-              is
-              ∙ ap (sets work to) (point_same at (length marks) second work₀ work room (placed_same p to work h) held (get_or marks p 0) w old p l)
-              ∙ ap₂ (λ xs i. sets xs i (point p)) h.written (h.to_is ∙ ap (λ n. second + n) (sym (length_to p)))
-              ∙ sets_append work₀ second (join_to p point) (point p)
-              ∙ ap (sets work₀ second) (sym (join_next p point));
-        }
+    pub placed_next : (p : ℕ) (work after : List ℕ) → p < length marks → PlacedTo p work
+        → after ≡ sets work (second + 3 * p) (held_point at work (get_or marks p 0) w old p) → PlacedTo (p + 1) after
+    placed_next p work after l h is =
+        is
+        ∙ ap (sets work (second + 3 * p)) (point_same at (length marks) second work₀ work room (placed_same p work h) held (get_or marks p 0) w old p l)
+        ∙ ap₂ (λ xs n. sets xs (second + n) (point p)) h (sym (length_to p))
+        ∙ sets_append work₀ second (join_to p point) (point p)
+        ∙ ap (sets work₀ second) (sym (join_next p point))
 
     -- all points placed: the new places, which are copied over the old ones
-    pub placed_last : (to : ℕ) (work : List ℕ) (long : ℕ) → PlacedTo (length marks) to work → long ≡ 3 * length marks → part_of second long work ≡ held_round at work₀ marks w old
+    pub placed_last : (work : List ℕ) (long : ℕ) → PlacedTo (length marks) work → long ≡ 3 * length marks → part_of second long work ≡ held_round at work₀ marks w old
     unfolding held_round
-    placed_last to work long h e =
-        rw (h.written, e ∙ sym (length_to (length marks))) (part_written work₀ second (join_to (length marks) point) (omega (arith, length_to (length marks))))
+    placed_last work long h e =
+        rw (h, e ∙ sym (length_to (length marks))) (part_written work₀ second (join_to (length marks) point) (omega (arith, length_to (length marks))))

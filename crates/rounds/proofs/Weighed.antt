@@ -4,7 +4,7 @@ use Prim.Native.Nat.{ℕ, ◌+◌, ◌*◌, ◌-◌, ◌<◌, ◌≤◌}
 use native.Mathlib.Nat.{add-mul, mul_assoc, mul_comm, mul-le-mul_left}
 use native.Mathlib.Omega.{arith}
 use Rattle.laws.proofs.Nearest.{nearest_most}
-use Rattle.grid.specs.Limits.{most_weight, most_points, most_coordinate}
+use Rattle.grid.specs.Limits.{most_weight}
 use Rattle.rounds.specs.Round.{moved}
 
 -- two weights that share 256 out
@@ -22,10 +22,3 @@ unfolding moved
 moved_small w d p s most lw ld lp ls =
     let n : (most_weight - w) * d * p + w * s ≤ most_weight * (d * most) = weighed_most (most_weight - w) w d p s most (omega arith) lp ls in
     nearest_most ((most_weight - w) * d * p + w * s) (most_weight * d) most (omega arith) (omega (arith, n, mul_comm d most))
-
--- what is worked out on the way fits a word by far
-pub parts_small : (w d p s : ℕ) → w ≤ most_weight → d ≤ most_points → p ≤ most_coordinate → s ≤ d * most_coordinate → ((most_weight - w) * d ≤ most_weight * most_points) × ((most_weight - w) * d * p + w * s ≤ most_weight * (most_points * most_coordinate))
-parts_small w d p s lw ld lp ls =
-    let a : d * (most_weight - w) ≤ d * most_weight = mul-le-mul_left d (omega arith) in
-    let b = weighed_most (most_weight - w) w d p s most_coordinate (omega arith) lp ls in
-    (omega (arith, mul_comm (most_weight - w) d), omega (arith, b))

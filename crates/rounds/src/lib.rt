@@ -44,13 +44,11 @@ fn sum_up(from: usize, end: usize, old: &[u32], work: &[u32]) -> Sums
     let mut x: u64 = 0;
     let mut y: u64 = 0;
     let mut z: u64 = 0;
-    let mut i = from;
-    while i < end {
+    for i in from..end {
         let q = 3 * (work[i] as usize);
         x += old[q] as u64;
         y += old[q + 1] as u64;
         z += old[q + 2] as u64;
-        i += 1;
     }
     Sums { x, y, z }
 }
@@ -127,12 +125,8 @@ pub fn round(
     ensures kept { SameTo second work.old work.new }
 {
     let v = marks.len();
-    let mut to = second;
-    let mut p = 0;
-    while p < v {
-        place(marks[p], weight, p, v, at, to, smoothed, work);
-        to += 3;
-        p += 1;
+    for (p, mark) in marks.iter().enumerate() {
+        place(*mark, weight, p, v, at, second + 3 * p, smoothed, work);
     }
     copy(second, work, smoothed);
 }

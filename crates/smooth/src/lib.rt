@@ -35,10 +35,8 @@ fn granted(
     let at = 2 * triangles.len();
     copy(0, points, smoothed);
     neighbours::list(triangles, v, at, work);
-    let mut k = 0;
-    while k < rounds {
+    for _ in 0..rounds {
         round(marks, weight, at, at + 2 * v + 1, smoothed, work);
-        k += 1;
     }
     rooms::clear(work);
 }
