@@ -12,7 +12,6 @@ ghost use Rattle.columns.specs.Columns.{field_of, way_of, worth_of, put_at, colu
 ghost use Rattle.columns.specs.Turns.{PointTurn, TriangleTurn};
 
 use records::Shell;
-use sets::wide;
 use ways::{Way, put, start_of, way_of};
 
 mod ways;
@@ -73,7 +72,7 @@ fn add_point(work: &mut [u32], v: usize, t: usize, kind: u32, way: Way, i: usize
     ensures { let room = work.old in
         work.new ≡ put_at way (column_at v t + point_number v t room i) (worth_of kind (points_in v room) (marks_in v room) i) room }
 {
-    let at = 5 * v + 3 * t + wide(work[4 * v + 3 * t + i]);
+    let at = 5 * v + 3 * t + work[4 * v + 3 * t + i] as usize;
     let x = worth(work, v, kind, i);
     work[at] = put(way, work[at], x);
 }
@@ -84,8 +83,8 @@ fn add_triangle(work: &mut [u32], v: usize, t: usize, k: usize)
     ensures { let room = work.old in
         work.new ≡ put_at Count (column_at v t + triangle_number v t room k) 0 room }
 {
-    let first = wide(work[4 * v + 3 * k]);
-    let at = 5 * v + 3 * t + wide(work[4 * v + 3 * t + first]);
+    let first = work[4 * v + 3 * k] as usize;
+    let at = 5 * v + 3 * t + work[4 * v + 3 * t + first] as usize;
     work[at] += 1;
 }
 

@@ -11,8 +11,6 @@ ghost use Rattle.shellnumbers.specs.Numbering.{number_of};
 ghost use Rattle.records.specs.Record.{sixfold as sixfoldOf};
 ghost use Rattle.records.specs.Grown.{none, widened, with_point, with_triangle, PointFits, TriangleFits, MeshFits};
 
-use sets::wide;
-
 pub mod volume;
 
 #[repr(C)]
@@ -55,7 +53,7 @@ pub fn number_at(numbers: &[u32], i: usize) -> usize
     requires { i < length numbers.now }
     ensures { result ≡ number_of numbers.now i }
 {
-    wide(numbers[i])
+    numbers[i] as usize
 }
 
 // The lowest of a shell's points: the first one that is added.
@@ -77,20 +75,14 @@ fn touched(mark: u8, touches: u32) -> u32
 fn least(points: u32, had: u32, x: u32) -> u32
     ensures { result ≡ widened points min had x }
 {
-    if points == 0 {
-        return x;
-    }
-    if x < had { x } else { had }
+    if points == 0 { x } else { had.min(x) }
 }
 
 // The greatest, likewise.
 fn greatest(points: u32, had: u32, x: u32) -> u32
     ensures { result ≡ widened points max had x }
 {
-    if points == 0 {
-        return x;
-    }
-    if had < x { x } else { had }
+    if points == 0 { x } else { had.max(x) }
 }
 
 // One point more, by value.
@@ -102,15 +94,14 @@ pub fn with_point(s: Shell, points: &[u32], marks: &[u8], i: usize) -> Shell
     Shell {
         low: lowest(s.points, s.low, i),
         points: s.points + 1,
-        triangles: s.triangles,
         touches: touched(marks[i], s.touches),
-        volume: s.volume,
         least_x: least(s.points, s.least_x, at.x),
         greatest_x: greatest(s.points, s.greatest_x, at.x),
         least_y: least(s.points, s.least_y, at.y),
         greatest_y: greatest(s.points, s.greatest_y, at.y),
         least_z: least(s.points, s.least_z, at.z),
         greatest_z: greatest(s.points, s.greatest_z, at.z),
+        ..s
     }
 }
 
@@ -121,17 +112,9 @@ pub fn with_triangle(s: Shell, points: &[u32], triangles: &[u32], k: usize) -> S
 {
     let volume = laws::signed::sum(s.volume, volume::sixfold(points, triangles, k));
     Shell {
-        low: s.low,
-        points: s.points,
         triangles: s.triangles + 1,
-        touches: s.touches,
         volume,
-        least_x: s.least_x,
-        greatest_x: s.greatest_x,
-        least_y: s.least_y,
-        greatest_y: s.greatest_y,
-        least_z: s.least_z,
-        greatest_z: s.greatest_z,
+        ..s
     }
 }
 
@@ -140,5 +123,5 @@ pub fn number_of(numbers: &[u32], triangles: &[u32], k: usize) -> usize
     requires { (triangles_fit triangles.now (length numbers.now) ≡ true) × (k < triangle_count triangles.now) }
     ensures { result ≡ number_of numbers.now (triangle_at triangles.now k).one }
 {
-    number_at(numbers, wide(triangles[3 * k]))
+    number_at(numbers, triangles[3 * k] as usize)
 }

@@ -10,7 +10,6 @@ ghost use Rattle.records.specs.Grown.{MeshFits, most_product};
 
 use grid::limits::{MOST_COORDINATE, MOST_TRIANGLES};
 use mesh::Place;
-use sets::wide;
 
 // The greatest product of three coordinates, and what no shell's volume is larger than in size: specs/Grown.antt has both.
 pub const MOST_PRODUCT: u64 = (MOST_COORDINATE as u64)
@@ -45,8 +44,8 @@ pub fn sixfold(points: &[u32], triangles: &[u32], k: usize) -> i64
     ensures sfits { SFits w64 result }
 {
     let at = 3 * k;
-    let a = mesh::place_of(points, wide(triangles[at]));
-    let b = mesh::place_of(points, wide(triangles[at + 1]));
-    let c = mesh::place_of(points, wide(triangles[at + 2]));
+    let a = mesh::place_of(points, triangles[at] as usize);
+    let b = mesh::place_of(points, triangles[at + 1] as usize);
+    let c = mesh::place_of(points, triangles[at + 2] as usize);
     laws::signed::excess(diagonals(a, b, c), diagonals(c, b, a))
 }

@@ -36,10 +36,10 @@ pub fn number_shells(work: &mut [u32], v: usize, t: usize) -> usize
     requires { Numberable v t work.old }
     ensures { ShellsNumbered v t work.old result work.new }
 {
-    let base = 4 * v + 3 * t;
-    let end = base + v;
-    roomsets::unite(work, 4 * v, t, base, v);
-    let shells = sets::count(&work[base..end], v);
-    roomsets::number(&mut work[base..end]);
+    let (mesh, rest) = work.split_at_mut(4 * v + 3 * t);
+    let numbers = &mut rest[..v];
+    sets::unite(numbers, &mesh[4 * v..], v);
+    let shells = sets::count(numbers, v);
+    sets::rank(numbers);
     shells
 }

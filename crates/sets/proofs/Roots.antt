@@ -125,8 +125,5 @@ halved room falls p small =
     (root_parent room falls (parent room p) ∙ root_parent room falls p)
     (λ e. omega (arith, falls p, falls (parent room p)))
 
-pub same_start : (room : List ℕ) → Falling room → SameSets room room
-same_start room falls = record { falls = falls; long = refl; roots = λ p. refl }
-
 pub same_then : (a b c : List ℕ) → SameSets a b → SameSets b c → SameSets a c
 same_then a b c s t = record { falls = t.falls; long = t.long ∙ s.long; roots = λ p. t.roots p ∙ s.roots p }

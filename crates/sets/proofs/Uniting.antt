@@ -1,19 +1,16 @@
 -- From every point alone to the corners of every triangle in one set.
-use mathlib.Core.Path.{◌≡◌, ap, sym, ◌∙◌, subst}
+use mathlib.Core.Path.{◌≡◌, sym, ◌∙◌, subst}
 use mathlib.Core.List.{List}
-use mathlib.Core.Bool.{true}
-use Prim.Native.Nat.{ℕ, ◌+◌, ◌*◌, ◌<◌, ◌≤◌}
+use Prim.Native.Nat.{ℕ, ◌+◌, ◌<◌, ◌≤◌}
 use native.Mathlib.Decide.{dec_lt}
 use native.Mathlib.Omega.{arith}
-use lib.ListN.{length, get_or, get_or-eq_default}
+use lib.ListN.{length, get_or-eq_default}
 use Rattle.laws.specs.Values.{list_to}
-use Rattle.laws.specs.Mesh.{Triangle, triangle}
+use Rattle.laws.specs.Mesh.{Triangle}
 use Rattle.laws.proofs.Values.{length_list, list_at}
 use Rattle.mesh.specs.Mesh.{triangle_count, triangle_at, triangles_of}
-use Rattle.mesh.specs.Check.{triangles_fit}
 use Rattle.sets.specs.Led.{Led, here}
 use Rattle.sets.specs.Sets.{parent, Falling, root, Sound, Joined, Together, United}
-use Rattle.mesh.proofs.Passed.{Corners, corners}
 use Rattle.sets.proofs.Roots.{root_fixed}
 use Rattle.sets.proofs.Leading.{led_first, led_second}
 
@@ -74,20 +71,3 @@ uniting_more triangles old room mid after k l u a b =
 
 pub united : (triangles old room : List ℕ) (k : ℕ) → k ≡ triangle_count triangles → Uniting triangles old room k → United triangles old room
 united triangles old room k e u = record { falls = u.falls; long = u.long; together = λ i l. u.together i (omega (arith, e)); sound = u.sound }
-
--- a turn of the walk along the list: a, b and c stand there from 3k on
-pub uniting_turn : (triangles old room mid after : List ℕ) (k at a b c : ℕ) → k < triangle_count triangles → at ≡ 3 * k → a ≡ get_or triangles at 0 → b ≡ get_or triangles (at + 1) 0
-    → c ≡ get_or triangles (at + 2) 0 → Uniting triangles old room k → Joined a b room mid → Joined b c mid after → Uniting triangles old after (k + 1)
-uniting_turn triangles old room mid after k at a b c l e ea eb ec u j m =
-    let x : a ≡ (triangle_at triangles k).one = ea ∙ ap (λ i. get_or triangles i 0) e in
-    let y : b ≡ (triangle_at triangles k).two = eb ∙ ap (λ i. get_or triangles (i + 1) 0) e in
-    let z : c ≡ (triangle_at triangles k).three = ec ∙ ap (λ i. get_or triangles (i + 2) 0) e in
-    uniting_more triangles old room mid after k l u
-    (subst (λ i. Joined i (triangle_at triangles k).two room mid) x (subst (λ i. Joined a i room mid) y j))
-    (subst (λ i. Joined i (triangle_at triangles k).three mid after) y (subst (λ i. Joined b i mid after) z m))
-
--- the corners there
-pub corners_there : (triangles : List ℕ) (v k at : ℕ) → triangles_fit triangles v ≡ true → k < triangle_count triangles → at ≡ 3 * k
-    → Corners v (triangle (get_or triangles at 0) (get_or triangles (at + 1) 0) (get_or triangles (at + 2) 0))
-corners_there triangles v k at h l e =
-    subst (λ i. Corners v (triangle (get_or triangles i 0) (get_or triangles (i + 1) 0) (get_or triangles (i + 2) 0))) (sym e) (corners triangles v k h l)

@@ -9,22 +9,13 @@ ghost use Rattle.grid.specs.Limits.{most_points};
 ghost use Rattle.mesh.specs.Check.{triangles_fit};
 ghost use Rattle.sets.specs.Sets.{Falling, root, is_root, rank_of, SameSets, Joined, United};
 
-// A number as an index.
-pub fn wide(x: u32) -> usize
-    ensures { result ≡ x }
-{
-    x as usize
-}
-
 // Every point alone, its own root.
 pub fn alone(room: &mut [u32])
     requires { length room.old ≤ 2 * most_points }
     ensures { room.new ≡ list_to (length room.old) (λ p. p) }
 {
-    let mut p = 0;
-    while p < room.len() {
-        room[p] = p as u32;
-        p += 1;
+    for (p, parent) in room.iter_mut().enumerate() {
+        *parent = p as u32;
     }
 }
 
@@ -36,12 +27,12 @@ fn find(room: &mut [u32], point: usize) -> usize
     ensures same_sets { SameSets room.old room.new }
 {
     let mut p = point;
-    let mut above = wide(room[p]);
+    let mut above = room[p] as usize;
     while above != p {
         let next = room[above];
         room[p] = next;
-        p = wide(next);
-        above = wide(room[p]);
+        p = next as usize;
+        above = room[p] as usize;
     }
     p
 }
@@ -70,15 +61,11 @@ pub fn unite(room: &mut [u32], triangles: &[u32], v: usize)
     ensures { United triangles.now room.old room.new }
 {
     alone(room);
-    let count = triangles.len() / 3;
-    let mut k = 0;
-    let mut at = 0;
-    while k < count {
-        let middle = wide(triangles[at + 1]);
-        join(room, wide(triangles[at]), middle);
-        join(room, middle, wide(triangles[at + 2]));
-        at += 3;
-        k += 1;
+    for k in 0..triangles.len() / 3 {
+        let at = 3 * k;
+        let middle = triangles[at + 1] as usize;
+        join(room, triangles[at] as usize, middle);
+        join(room, middle, triangles[at + 2] as usize);
     }
 }
 
@@ -88,33 +75,39 @@ pub fn count(room: &[u32], v: usize) -> usize
     ensures { result ≡ count_to v (is_root room.now) }
 {
     let mut roots = 0;
-    let mut p = 0;
-    while p < v {
-        if wide(room[p]) == p {
+    for p in 0..v {
+        if room[p] as usize == p {
             roots += 1;
         }
-        p += 1;
     }
     roots
 }
 
-// To each point the rank of its root among the roots. A point's parent has the same, and has it before.
+// In the place of each point's parent the rank of its root among the roots. A point's parent has the same, and has it before.
+pub fn rank(room: &mut [u32])
+    requires falling { Falling room.old }
+    requires room_len_bound { length room.old ≤ most_points }
+    ensures { room.new ≡ list_to (length room.old) (rank_of room.old) }
+{
+    let mut next = 0;
+    for p in 0..room.len() {
+        let above = room[p] as usize;
+        if above == p {
+            room[p] = next;
+            next += 1;
+        } else {
+            room[p] = room[above];
+        }
+    }
+}
+
+// To each point the rank of its root among the roots.
 pub fn number(room: &[u32], numbers: &mut [u32])
     requires falling { Falling room.now }
     requires numbers_in_bounds { length numbers.old ≤ length room.now }
     requires numbers_len_bound { length numbers.old ≤ most_points }
     ensures { numbers.new ≡ list_to (length numbers.old) (rank_of room.now) }
 {
-    let mut next = 0;
-    let mut p = 0;
-    while p < numbers.len() {
-        let above = wide(room[p]);
-        if above == p {
-            numbers[p] = next;
-            next += 1;
-        } else {
-            numbers[p] = numbers[above];
-        }
-        p += 1;
-    }
+    numbers.copy_from_slice(&room[..numbers.len()]);
+    rank(numbers);
 }

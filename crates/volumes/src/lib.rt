@@ -12,7 +12,6 @@ ghost use Rattle.volumes.specs.Turns.{changed, corners_at, Turnable, VolumeTurn}
 use columns::fill;
 use mesh::place_of;
 use records::volume::{MOST_VOLUME, diagonals};
-use sets::wide;
 
 // How many numbers there are of 32 bits.
 const WORDS: u64 = 4_294_967_296;
@@ -59,9 +58,9 @@ fn with_triangle(work: &[u32], at: usize, stored: u64) -> u64
     requires { Turnable work.now at stored }
     ensures { result ≡ changed work.now (corners_at work.now at) stored }
 {
-    let a = place_of(work, wide(work[at]));
-    let b = place_of(work, wide(work[at + 1]));
-    let c = place_of(work, wide(work[at + 2]));
+    let a = place_of(work, work[at] as usize);
+    let b = place_of(work, work[at + 1] as usize);
+    let c = place_of(work, work[at + 2] as usize);
     stored + diagonals(a, b, c) - diagonals(c, b, a)
 }
 
@@ -73,8 +72,8 @@ fn add_triangle(work: &mut [u32], v: usize, t: usize, k: usize)
         work.new ≡ with_words v t n (changed (points_in v room) (triangle_at (triangles_in v t room) k) (words_in v t room n)) room }
 {
     let at = 4 * v + 3 * k;
-    let first = wide(work[at]);
-    let n = wide(work[4 * v + 3 * t + first]);
+    let first = work[at] as usize;
+    let n = work[4 * v + 3 * t + first] as usize;
     let stored = with_triangle(work, at, words_at(work, v, t, n));
     put_words(work, v, t, n, stored);
 }

@@ -5,7 +5,7 @@ use Prim.Native.Nat.{ℕ, ◌≤◌}
 use native.Mathlib.Omega.{arith}
 use lib.ListN.{get_or, set, length-set}
 use Rattle.sets.specs.Sets.{parent, root, SameSets}
-use Rattle.sets.proofs.Roots.{root_parent, root_fixed, halved, same_start, same_then}
+use Rattle.sets.proofs.Roots.{root_parent, root_fixed, halved, same_then}
 use Rattle.sets.proofs.find.Invariants.{Finding}
 use Rattle.sets.proofs.find.Goals as goal
 
@@ -32,43 +32,13 @@ turn old room point p above next p' above' f e h l =
           ∙ f.reached;
     }
 
-pub loop-above-init : goal.loop-above-init
-loop-above-init c =
-    let a = c.args in
-    record {
-      same = same_start a.room.now c.requires.falling;
-      small = c.requires.point_in_bounds;
-      long = refl;
-      here = c.wide-above.ensures;
-      low = omega (arith, c.wide-above.ensures, c.requires.falling a.point);
-      reached = refl;
-    }
-
-pub offset_bounds-room-p-in-loop-above-2 : goal.offset_bounds-room-p-in-loop-above-2
-offset_bounds-room-p-in-loop-above-2 c =
-    let l = c.loop-above in
-    omega (arith, c.wide-p.ensures, l.invariant.same.falls l.above)
-
-pub bounds-room-p-in-loop-above-2 : goal.bounds-room-p-in-loop-above-2
-bounds-room-p-in-loop-above-2 c =
-    let l = c.loop-above in
-    simp length-set (omega (arith, c.wide-p.ensures, l.invariant.same.falls l.above))
-
-pub loop-above-smaller : goal.loop-above-smaller
-loop-above-smaller c =
-    let l = c.loop-above in
-    omega (arith, c.wide-p.ensures, l.invariant.same.falls l.above)
-
 pub loop-above-preserved : goal.loop-above-preserved
 loop-above-preserved c =
     let l = c.loop-above in
-    turn _ l.room _ l.p l.above _ _ _ l.invariant refl c.wide-p.ensures c.wide-above-in-loop-above.ensures
+    turn _ l.room _ l.p l.above _ _ _ l.invariant refl refl refl
 
-pub shape_of-room : goal.shape_of-room
-shape_of-room c = c.loop-above.invariant.long
-
-pub returns : goal.returns
-returns c =
-    let a = c.args in
+pub returns-clause-value : goal.returns-clause-value
+returns-clause-value c =
     let l = c.loop-above in
-    let top : parent l.room l.p ≡ l.p = sym l.invariant.here ∙ c.loop-above-test.false in record { value = sym (root_fixed l.room l.invariant.same.falls l.p top) ∙ l.invariant.same.roots l.p ∙ l.invariant.reached; same_sets = l.invariant.same }
+    let top : parent l.room l.p ≡ l.p = sym l.invariant.here ∙ c.loop-above-test.false in
+    sym (root_fixed l.room l.invariant.same.falls l.p top) ∙ l.invariant.same.roots l.p ∙ l.invariant.reached

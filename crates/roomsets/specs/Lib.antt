@@ -1,2 +1,0 @@
--- Sets of points in a part of a room.
-pub mod Parts
