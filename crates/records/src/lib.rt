@@ -78,7 +78,7 @@ fn least(points: u32, had: u32, x: u32) -> u32
     if points == 0 { x } else { had.min(x) }
 }
 
-// The greatest, likewise.
+// The greatest, likewise. One function for both is no plainer: each of its six calls would have to say which of min and max it means.
 fn greatest(points: u32, had: u32, x: u32) -> u32
     ensures { result ≡ widened points max had x }
 {

@@ -27,6 +27,7 @@ fn product(a: u32, b: u32, c: u32) -> u64
 }
 
 // Three points as rows: the products along the three diagonals that go down to the right.
+#[tactic(auto, unfolding(crate::specs::Record::diagonals))]
 pub fn diagonals(a: Place, b: Place, c: Place) -> u64
     requires near { Near a }
     requires near_2 { Near b }

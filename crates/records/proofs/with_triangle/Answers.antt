@@ -12,13 +12,6 @@ use Rattle.records.proofs.with_triangle.Goals as goal
 as_were : (u v : ℤ) → to_z w64 (of_z w64 u) ≡ u → SFits w64 v → to_z w64 (of_z w64 u) +ℤ to_z w64 (of_z w64 v) ≡ u +ℤ v
 as_were u v e f = ap (λ (z : ℤ). z +ℤ to_z w64 (of_z w64 v)) e ∙ ap (λ (z : ℤ). u +ℤ z) (to_z-of_z {w = w64} f)
 
-pub sum-volume-requires : goal.sum-volume-requires
-sum-volume-requires c =
-    let u = c.args.s.volume in
-    let d = c.sixfold.result in
-    let e : to_z w64 (of_z w64 u) ≡ u = search rules in
-    subst (SFits w64) (sym (as_were u d e c.sixfold.ensures.sfits ∙ ap (λ (z : ℤ). u +ℤ z) c.sixfold.ensures.value)) c.requires.0.sum
-
 pub returns : goal.returns
 unfolding with_triangle
 returns c =

@@ -9,7 +9,8 @@ use mir.Syntax.{w64}
 use mir.Val.{SFits}
 use mir.Facts.{to_z-of_z}
 use Rattle.laws.proofs.Differences.{difference_fits}
-use Rattle.laws.specs.Mesh.{triangle}
+use Rattle.laws.specs.Mesh.{Triangle}
+use Rattle.mesh.specs.Mesh.{triangle_at}
 use Rattle.mesh.specs.declared.Place.{Place}
 use Rattle.records.specs.Record.{diagonals, determinant, sixfold}
 use Rattle.mesh.specs.Place.{place_of, Near}
@@ -27,25 +28,25 @@ fits : (r : ℤ) (m n : ℕ) → m < 2 ^ 63 → n < 2 ^ 63 → r ≡ pos m -ℤ 
 fits r m n lm ln e = subst (SFits w64) (sym e) (difference_fits m n lm ln)
 
 -- the places' determinant is the triangle's
-told : (points : List ℕ) (r : ℤ) (m n i j k i' j' k' : ℕ) (a b c : Place) → r ≡ pos m -ℤ pos n → m ≡ diagonals a b c → n ≡ diagonals c b a → a ≡ place_of points i → b ≡ place_of points j
-    → c ≡ place_of points k → i ≡ i' → j ≡ j' → k ≡ k' → r ≡ sixfold points (triangle i' j' k')
+told : (points : List ℕ) (r : ℤ) (m n : ℕ) (t : Triangle) (a b c : Place) → r ≡ pos m -ℤ pos n → m ≡ diagonals a b c → n ≡ diagonals c b a
+    → a ≡ place_of points t.one → b ≡ place_of points t.two → c ≡ place_of points t.three → r ≡ sixfold points t
 unfolding sixfold determinant
-told points r m n i j k i' j' k' a b c e em en ea eb ec ei ej ek = e ∙ rw (em, en, ea, eb, ec, ei, ej, ek)
+told points r m n t a b c e em en ea eb ec = e ∙ rw (em, en, ea, eb, ec)
 
 pub place_of-a-requires : goal.place_of-a-requires
 place_of-a-requires c =
     let t = corners c.args.triangles.now (length c.args.points.now / 3) c.args.k c.requires.mesh_fits.corners c.requires.k_bound in
-    omega (arith, c.wide.ensures, t.first)
+    omega (arith, t.first)
 
 pub place_of-b-requires : goal.place_of-b-requires
 place_of-b-requires c =
     let t = corners c.args.triangles.now (length c.args.points.now / 3) c.args.k c.requires.mesh_fits.corners c.requires.k_bound in
-    omega (arith, c.wide-2.ensures, t.second)
+    omega (arith, t.second)
 
 pub place_of-c-requires : goal.place_of-c-requires
 place_of-c-requires c =
     let t = corners c.args.triangles.now (length c.args.points.now / 3) c.args.k c.requires.mesh_fits.corners c.requires.k_bound in
-    omega (arith, c.wide-3.ensures, t.third)
+    omega (arith, t.third)
 
 -- each place is within the limit
 first_near : (c : After-place_of-a) → Near c.place_of-a.result
@@ -73,4 +74,4 @@ returns c =
     (small _ c.place_of-a.result c.place_of-b.result c.place_of-c.result (first_near (goal.at.returns c).After-place_of-a) (second_near (goal.at.returns c).After-place_of-b) (third_near (goal.at.returns c).After-place_of-c) c.diagonals.ensures)
     (small _ c.place_of-c.result c.place_of-b.result c.place_of-a.result (third_near (goal.at.returns c).After-place_of-c) (second_near (goal.at.returns c).After-place_of-b) (first_near (goal.at.returns c).After-place_of-a) c.diagonals-2.ensures)
     c.excess.ensures in
-    let e = to_z-of_z {w = w64} fine in record { value = e ∙ told c.args.points.now c.excess.result c.diagonals.result c.diagonals-2.result _ _ _ _ _ _ c.place_of-a.result c.place_of-b.result c.place_of-c.result c.excess.ensures c.diagonals.ensures c.diagonals-2.ensures c.place_of-a.ensures c.place_of-b.ensures c.place_of-c.ensures c.wide.ensures c.wide-2.ensures c.wide-3.ensures; sfits = subst (SFits w64) (sym e) fine }
+    let e = to_z-of_z {w = w64} fine in record { value = e ∙ told c.args.points.now c.excess.result c.diagonals.result c.diagonals-2.result (triangle_at c.args.triangles.now c.args.k) c.place_of-a.result c.place_of-b.result c.place_of-c.result c.excess.ensures c.diagonals.ensures c.diagonals-2.ensures c.place_of-a.ensures c.place_of-b.ensures c.place_of-c.ensures; sfits = subst (SFits w64) (sym e) fine }
