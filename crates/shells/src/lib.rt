@@ -15,23 +15,13 @@ ghost use Rattle.shelllist.specs.Filled.{PointTurn, PointsFit, TriangleTurn, Tri
 use records::{Shell, blank, number_at, number_of, with_point, with_triangle};
 use shellnumbers::{Listed, list_numbers};
 
-// Makes record n empty.
-fn put_blank(records: &mut [Shell], n: usize)
-    requires { n < length records.old }
-    ensures { records.new ≡ set records.old n none }
-{
-    records[n] = blank();
-}
-
 // Makes the first records empty.
 fn empty(records: &mut [Shell], count: usize)
     requires { count ≤ length records.old }
     ensures { records.new ≡ emptied count records.old }
 {
-    let mut n = 0;
-    while n < count {
-        put_blank(records, n);
-        n += 1;
+    for n in 0..count {
+        records[n] = blank();
     }
 }
 
@@ -51,11 +41,8 @@ fn add_points(records: &mut [Shell], numbers: &[u32], points: &[u32], marks: &[u
     requires { PointsFit points.now marks.now numbers.now records.old }
     ensures { records.new ≡ points_added points.now marks.now numbers.now (length numbers.now) records.old }
 {
-    let count = numbers.len();
-    let mut i = 0;
-    while i < count {
+    for i in 0..numbers.len() {
         add_point(records, numbers, points, marks, i);
-        i += 1;
     }
 }
 
@@ -71,27 +58,13 @@ fn add_triangle(records: &mut [Shell], numbers: &[u32], points: &[u32], triangle
 }
 
 // Adds all triangles.
-fn add_triangles(
-    records: &mut [Shell],
-    numbers: &[u32],
-    points: &[u32],
-    triangles: &[u32],
-    count: usize,
-)
-    requires { (count ≡ triangle_count triangles.now) × TrianglesFit points.now triangles.now numbers.now records.old }
-    ensures { records.new ≡ triangles_added points.now triangles.now numbers.now count records.old }
+fn add_triangles(records: &mut [Shell], numbers: &[u32], points: &[u32], triangles: &[u32])
+    requires { TrianglesFit points.now triangles.now numbers.now records.old }
+    ensures { records.new ≡ triangles_added points.now triangles.now numbers.now (triangle_count triangles.now) records.old }
 {
-    let mut k = 0;
-    while k < count {
+    for k in 0..triangles.len() / 3 {
         add_triangle(records, numbers, points, triangles, k);
-        k += 1;
     }
-}
-
-fn triangle_count(triangles: &[u32]) -> usize
-    ensures { result ≡ triangle_count triangles.now }
-{
-    triangles.len() / 3
 }
 
 // Makes the record of each shell, from the shell numbers of all points.
@@ -108,8 +81,7 @@ fn fill(
 {
     empty(records, shells);
     add_points(records, numbers, points, marks);
-    let count = triangle_count(triangles);
-    add_triangles(records, numbers, points, triangles, count);
+    add_triangles(records, numbers, points, triangles);
 }
 
 // The shell number of every point and one record a shell, into lent rooms.
