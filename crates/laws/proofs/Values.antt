@@ -4,7 +4,7 @@ use mathlib.Core.List.{List, [], ◌∷◌, ◌++◌, append-nil, flat_map}
 use Prim.Native.Nat.{ℕ, zero, suc, ◌+◌, ◌<◌, ◌-◌, ◌≤◌}
 use native.Mathlib.Decide.{dec_lt, ℕ_discrete}
 use native.Mathlib.Omega.{arith}
-use lib.ListN.{length, get_or, set, drop, length-append, length-set, get_or-append}
+use lib.ListN.{length, get_or, set, drop, replicate, length-append, length-replicate, length-set, get_or-append, get_or-replicate}
 use lib.Seq.{get_or_at, ext_get_or, set-append_left, get_or-set_same, get_or-set_other}
 use Rattle.laws.specs.Range.{join_to}
 use Rattle.laws.specs.Room.{laid}
@@ -36,6 +36,12 @@ module _ {A : Type 0} where
   pub list_cong : (n : ℕ) (f g : ℕ → A) → ((i : ℕ) → i < n → f i ≡ g i) → list_to n f ≡ list_to n g
   unfolding list_to
   list_cong n f g h = join_cong n (λ i. f i ∷ []) (λ i. g i ∷ []) (λ i l. ap (λ a. a ∷ []) (h i l))
+
+  -- one value at every place
+  pub list_same : (n : ℕ) (x : A) → list_to n (λ i. x) ≡ replicate n x
+  list_same n x =
+      ext_get_or x (list_to n (λ i. x)) (replicate n x) (length_list n (λ i. x) ∙ sym (length-replicate n x))
+      (λ k l. let m : k < n = omega (arith, length_list n (λ (i : ℕ). x)) in list_at n k (λ i. x) x m ∙ sym (get_or-replicate n k x x m))
 
   pub list_split : (m n : ℕ) (f : ℕ → A) → list_to (m + n) f ≡ list_to m f ++ list_to n (λ i. f (m + i))
   unfolding list_to

@@ -11,9 +11,6 @@ use Rattle.records.specs.Grown.{most_product}
 pub product_small : (a b c : ℕ) → a ≤ most_coordinate → b ≤ most_coordinate → c ≤ most_coordinate → a * b * c ≤ most_product
 product_small a b c ha hb hc = mul-le-mul (mul-le-mul ha hb) hc
 
-pub pair_small : (a b : ℕ) → a ≤ most_coordinate → b ≤ most_coordinate → a * b ≤ most_coordinate * most_coordinate
-pair_small a b ha hb = mul-le-mul ha hb
-
 pub diagonals_small : (a b c : Place) → Near a → Near b → Near c → diagonals a b c ≤ 3 * most_product
 unfolding diagonals
 diagonals_small a b c na nb nc =

@@ -20,9 +20,7 @@ fn empty(records: &mut [Shell], count: usize)
     requires { count ≤ length records.old }
     ensures { records.new ≡ emptied count records.old }
 {
-    for n in 0..count {
-        records[n] = blank();
-    }
+    records[..count].fill(blank());
 }
 
 // Adds point i to its record.
