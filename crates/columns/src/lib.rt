@@ -59,11 +59,7 @@ pub fn fill(work: &mut [u32], from: usize, count: usize, x: u32)
     requires { from + count ≤ length work.old }
     ensures { work.new ≡ sets work.old from (list_to count (λ n. x)) }
 {
-    let mut n = 0;
-    while n < count {
-        work[from + n] = x;
-        n += 1;
-    }
+    work[from..from + count].fill(x);
 }
 
 // Point i into its shell's place of the column.
@@ -96,10 +92,8 @@ fn gather_points(work: &mut [u32], v: usize, t: usize, shells: usize, kind: u32)
 {
     let way = way_of(kind);
     fill(work, 5 * v + 3 * t, shells, start_of(way));
-    let mut i = 0;
-    while i < v {
+    for i in 0..v {
         add_point(work, v, t, kind, way, i);
-        i += 1;
     }
 }
 
@@ -110,10 +104,8 @@ fn gather_triangles(work: &mut [u32], v: usize, t: usize, shells: usize)
         work.new ≡ sets room (column_at v t) (list_to shells (column_to Count (triangle_number v t room) (λ k. 0) t)) }
 {
     fill(work, 5 * v + 3 * t, shells, 0);
-    let mut k = 0;
-    while k < t {
+    for k in 0..t {
         add_triangle(work, v, t, k);
-        k += 1;
     }
 }
 

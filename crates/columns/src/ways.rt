@@ -2,9 +2,6 @@
 ghost use Rattle.std.specs.Prelude.{◌≡◌, ◌<◌, ◌^◌};
 ghost use Rattle.columns.specs.Columns.{way_of, start_by, put_by};
 
-// The largest number of 32 bits.
-const LARGEST: u32 = 4_294_967_295;
-
 #[derive(Clone, Copy)]
 pub enum Way {
     Least,
@@ -28,7 +25,7 @@ pub fn start_of(way: Way) -> u32
     ensures { result ≡ start_by way }
 {
     match way {
-        Way::Least => LARGEST,
+        Way::Least => u32::MAX,
         Way::Greatest => 0,
         Way::Count => 0,
     }
@@ -40,8 +37,8 @@ pub fn put(way: Way, had: u32, x: u32) -> u32
     ensures { result ≡ put_by way had x }
 {
     match way {
-        Way::Least => { if x < had { x } else { had } }
-        Way::Greatest => { if had < x { x } else { had } }
+        Way::Least => had.min(x),
+        Way::Greatest => had.max(x),
         Way::Count => had + 1,
     }
 }

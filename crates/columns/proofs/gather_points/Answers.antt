@@ -1,7 +1,6 @@
 -- `columns::gather_points` meets its contract: the column of the points so far, then all of them.
 use mathlib.Core.Path.{◌≡◌, ap, ◌∙◌}
 use native.Mathlib.Omega.{arith}
-use lib.Seq.{length-sets}
 use Rattle.columns.specs.Columns.{start_by}
 use Rattle.columns.proofs.Rooms.{shells_inside}
 use Rattle.columns.proofs.Turns.{points_after, begun, points_begun, points_ended, point_turn, point_put}
@@ -18,7 +17,6 @@ loop-i-init c =
     record {
       stands = begun a.shells a.v a.t a.work.now c.requires c.fill.new.work x c.fill.ensures;
       is_way = c.way_of-way.ensures;
-      small = omega arith;
       put = points_begun a.shells a.v a.t a.work.now c.requires c.fill.new.work x c.fill.ensures a.kind (c.start_of.ensures ∙ ap start_by c.way_of-way.ensures);
     }
 
@@ -33,15 +31,10 @@ loop-i-preserved c =
     record {
       stands = c.loop-i.invariant.stands;
       is_way = c.loop-i.invariant.is_way;
-      small = omega arith;
       put =
           point_put a.shells a.v a.t c.fill.new.work c.loop-i.invariant.stands a.kind c.loop-i.i c.loop-i-test.true
           c.loop-i.invariant.is_way c.loop-i.invariant.put c.add_point.ensures;
     }
-
-pub shape_of-work : goal.shape_of-work
-shape_of-work c =
-    rw (c.loop-i.invariant.put, length-sets) c.fill.auto.work
 
 pub returns : goal.returns
 returns c =

@@ -1,7 +1,7 @@
 -- `columns::gather_points` meets its contract: the column of the points so far, then all of them.
 use mathlib.Core.Path.{◌≡◌}
 use mathlib.Core.List.{List}
-use Prim.Native.Nat.{ℕ, ◌-◌, ◌≤◌}
+use Prim.Native.Nat.{ℕ}
 use Rattle.columns.specs.declared.ways.Way.{Way}
 use Rattle.columns.specs.Room.{StandsIn}
 use Rattle.columns.specs.Columns.{way_of}
@@ -11,11 +11,7 @@ use Rattle.columns.proofs.gather_points.Given as goal
 pub record PointsPut (shells v t kind : ℕ) (way : Way) (filled now : List ℕ) (i : ℕ) : Type 0 where
   pub stands : StandsIn shells v t filled
   pub is_way : way ≡ way_of kind
-  pub small : i ≤ v
   pub put : now ≡ points_after shells v t filled kind i
 
 abbrev pub invariant-loop-i : goal.invariant-loop-i
 invariant-loop-i l = PointsPut l.shells l.v l.t l.kind l.way l.initial.work l.work l.i
-
-abbrev pub decreases-loop-i : goal.decreases-loop-i
-decreases-loop-i l = l.v - l.i

@@ -1,7 +1,6 @@
 -- `columns::gather_triangles` meets its contract: the column of the triangles so far, then all of them.
 use mathlib.Core.Path.{◌≡◌, refl, ap, ◌∙◌}
 use native.Mathlib.Omega.{arith}
-use lib.Seq.{length-sets}
 use Rattle.columns.proofs.Rooms.{shells_inside}
 use Rattle.columns.proofs.Turns.{triangles_after, begun, triangles_begun, triangles_ended, triangle_turn, triangle_put}
 use Rattle.columns.proofs.gather_triangles.Goals as goal
@@ -15,7 +14,6 @@ loop-k-init c =
     let a = c.args in
     record {
       stands = begun a.shells a.v a.t a.work.now c.requires c.fill.new.work 0 c.fill.ensures;
-      small = omega arith;
       put = triangles_begun a.shells a.v a.t a.work.now c.requires c.fill.new.work 0 c.fill.ensures refl;
     }
 
@@ -29,15 +27,10 @@ loop-k-preserved c =
     let a = c.args in
     record {
       stands = c.loop-k.invariant.stands;
-      small = omega arith;
       put =
           triangle_put a.shells a.v a.t c.fill.new.work c.loop-k.invariant.stands c.loop-k.k c.loop-k-test.true
           c.loop-k.invariant.put c.add_triangle.ensures;
     }
-
-pub shape_of-work : goal.shape_of-work
-shape_of-work c =
-    rw (c.loop-k.invariant.put, length-sets) c.fill.auto.work
 
 pub returns : goal.returns
 returns c =
