@@ -94,10 +94,8 @@ pub fn gather_volumes(work: &mut [u32], v: usize, t: usize, shells: usize)
         work.new ≡ all_words v t shells (λ n. stored_volume (volume_in v t room n)) room }
 {
     start(work, v, t, shells);
-    let mut k = 0;
-    while k < t {
+    for k in 0..t {
         add_triangle(work, v, t, k);
-        k += 1;
     }
 }
 

@@ -1,7 +1,6 @@
 -- `volumes::gather_volumes` meets its contract: the volumes from the triangles so far, then from all of them.
 use mathlib.Core.Path.{◌≡◌, ap, ◌∙◌}
 use native.Mathlib.Omega.{arith}
-use lib.Seq.{length-sets}
 use Rattle.columns.proofs.Rooms.{few_shells}
 use Rattle.volumes.proofs.Volumes.{volumes_after, volume_turn, volume_put, begun, volumes_begun, volumes_ended, volumes_all}
 use Rattle.volumes.proofs.gather_volumes.Goals as goal
@@ -15,7 +14,6 @@ loop-k-init c =
     let a = c.args in
     record {
       stands = begun a.shells a.v a.t a.work.now c.requires c.start.new.work c.start.ensures;
-      small = omega arith;
       put = volumes_begun a.shells a.v a.t a.work.now c.requires c.start.new.work c.start.ensures;
     }
 
@@ -29,15 +27,10 @@ loop-k-preserved c =
     let a = c.args in
     record {
       stands = c.loop-k.invariant.stands;
-      small = omega arith;
       put =
           volume_put a.shells a.v a.t c.start.new.work c.loop-k.invariant.stands c.loop-k.k c.loop-k-test.true
           c.loop-k.invariant.put c.add_triangle.ensures;
     }
-
-pub shape_of-work : goal.shape_of-work
-shape_of-work c =
-    rw (c.loop-k.invariant.put, length-sets, length-sets) c.start.auto.work
 
 pub returns : goal.returns
 returns c =
