@@ -16,11 +16,7 @@ pub fn least(a: usize, b: usize) -> usize
 pub fn clear(room: &mut [u32])
     ensures { room.new ≡ replicate (length room.old) 0 }
 {
-    let mut i = 0;
-    while i < room.len() {
-        room[i] = 0;
-        i += 1;
-    }
+    room.fill(0);
 }
 
 // The numbers that stand in a list from a place on, over the whole of a room.
@@ -28,9 +24,6 @@ pub fn copy(from: usize, read: &[u32], written: &mut [u32])
     requires { from + length written.old ≤ length read.now }
     ensures { written.new ≡ part_of from (length written.old) read.now }
 {
-    let mut i = 0;
-    while i < written.len() {
-        written[i] = read[from + i];
-        i += 1;
-    }
+    let end = from + written.len();
+    written.copy_from_slice(&read[from..end]);
 }
