@@ -50,18 +50,14 @@ const GATHER: u64 = 0x0102_0408;
 fn above_flag(sample: u16, grey: u16) -> u8
     ensures { result ≡ one_if (leb grey sample) }
 {
-    if grey <= sample { 1 } else { 0 }
+    u8::from(grey <= sample)
 }
 
 // The same of a kept sample. It is compared in 32 bits, so that the compiler takes eight at a time.
 fn kept_flag(number: u32, grey: u16) -> u8
     ensures { result ≡ one_if (leb grey (sample_of number)) }
 {
-    if grey as u32 <= grid::sample_of(number) {
-        1
-    } else {
-        0
-    }
+    u8::from(grey as u32 <= grid::sample_of(number))
 }
 
 // Flags so many kept samples from `start` on, in the front of the flags.
@@ -97,7 +93,7 @@ fn flag_lent(kept: &[u32], samples: &[u16], start: usize, many: usize, grey: u16
         flag_samples(samples, start - end, many, grey, 0, flags);
         return;
     }
-    let here = rooms::least(end - start, many);
+    let here = many.min(end - start);
     flag_kept(kept, start, here, grey, flags);
     flag_samples(samples, 0, many - here, grey, here, flags);
 }
@@ -218,7 +214,7 @@ pub fn fill(kept: &[u32], samples: &[u16], nx: usize, rows: usize, grey: u16, ma
     let mut r = 0;
     let mut to = 0;
     while r < rows {
-        let many = rooms::least(most, rows - r);
+        let many = most.min(rows - r);
         flag_lent(kept, samples, nx * r, nx * many, grey, &mut flags);
         to = mask_rows(&flags, nx, many, to, masks);
         r += many;

@@ -14,14 +14,14 @@ use Rattle.laws.proofs.Halves.{bit_of_ones}
 use Rattle.laws.proofs.Tests.{leb_cases}
 use Rattle.laws.proofs.Words.{bit_half}
 use Rattle.grid.specs.Limits.{most_side, most_rows, most_edges}
-use Rattle.grid.specs.Grid.{site, axes, sample_count, edge_count}
-use Rattle.grid.specs.Work.{SidesFit}
+use Rattle.grid.specs.Grid.{Size, site, axes, sample_count, edge_count}
+use Rattle.grid.specs.Work.{size, SidesFit}
 use Rattle.grid.proofs.Sides.{rows_most, samples_most}
 use Rattle.grid.proofs.Sites.{site_small}
-use Rattle.masks.specs.Masks.{word_cubes, row_words, last_samples, most_words, Agreeing, AllSet}
+use Rattle.masks.specs.Masks.{word_cubes, row_words, last_samples, mask_above, most_words, Agreeing, AllSet}
 use Rattle.rows.specs.declared.Sides.{Sides}
 use Rattle.rows.specs.declared.Stretch.{Stretch}
-use Rattle.rows.specs.Rows.{Ready, Stands, Addable, size_of, layer_first, first_x, own_samples, own_cubes, samples_mask, cubes_mask, first_stretch, next_stretch}
+use Rattle.rows.specs.Rows.{SidesOf, Whole, Ready, words_above, grid_samples, Stands, Addable, size_of, layer_first, first_x, own_samples, own_cubes, samples_mask, cubes_mask, first_stretch, next_stretch}
 
 -- a grid within the limits has few edges, and few words
 pub edges_few : (sides : Sides) → SidesFit sides.nx sides.ny sides.nz → edge_count axes (size_of sides) ≤ most_edges
@@ -32,20 +32,44 @@ words_most nx ny nz fit =
     mul-le-mul {n₁ = row_words nx} {m₁ = ny * nz} {n₂ = row_words most_side} {m₂ = most_rows} (omega (arith, fit.most_x)) (rows_most nx ny nz fit)
 
 -- where the words of all layers are lent, every layer is ready
-abbrev pub whole_ready : (sides : Sides) (masks : List ℕ) → sides.below ≡ 0 → SidesFit sides.nx sides.ny sides.nz → sides.words ≡ row_words sides.nx
-    → AllSet (last_samples sides.nx) sides.last → row_words sides.nx * (sides.ny * sides.nz) ≤ length masks → Agreeing sides.nx (sides.ny * sides.nz) masks
-    → (z : ℕ) → z < sides.nz → Ready sides z masks
-whole_ready sides masks none fit words last rows agree z h = record {
-  fit = fit;
-  words = words;
-  last = last;
+pub whole_ready : (sides : Sides) (masks : List ℕ) → Whole sides masks → (z : ℕ) → z < sides.nz → Ready sides z masks
+whole_ready sides masks whole z h = record {
+  fit = whole.fit;
+  words = whole.words;
+  last = whole.last;
   layers = sides.nz;
-  from = omega (arith, none);
+  from = omega (arith, whole.none);
   here = omega arith;
   over = λ u. omega arith;
-  rows = rows;
-  agree = agree;
+  rows = whole.rows;
+  agree = whole.agree;
 }
+
+-- their words say of the whole grid what is above, and the samples lent are the grid's
+pub above_whole : (sides : Sides) (masks : List ℕ) → sides.below ≡ 0 → words_above sides masks ≡ mask_above sides.nx masks
+above_whole sides masks none = rw none
+
+pub samples_whole : (sides : Sides) (samples : List ℕ) → sides.below ≡ 0 → grid_samples sides samples ≡ samples
+samples_whole sides samples none = rw none
+
+module _ (x y z : ℕ) (sides : Sides) (is : SidesOf x y z 0 sides) (masks : List ℕ) where
+  -- sides as they are made for a whole grid
+  pub whole_of : SidesFit x y z → row_words x * (y * z) ≤ length masks → Agreeing x (y * z) masks → Whole sides masks
+  whole_of fit rows agree = record {
+    fit = rw (is.nx, is.ny, is.nz) fit;
+    words = is.words;
+    last = is.last;
+    none = is.below;
+    rows = rw (is.nx, is.ny, is.nz) rows;
+    agree = rw (is.nx, is.ny, is.nz) agree;
+  }
+
+  -- what holds of the sides and their words holds of the numbers that they were made of
+  pub of_whole : (P : Size → (ℕ → Bool) → Type 0) → P (size_of sides) (words_above sides masks) → P (size x y z) (mask_above x masks)
+  of_whole P holds =
+      let same : words_above sides masks ≡ mask_above x masks = above_whole sides masks is.below ∙ ap (λ nx. mask_above nx masks) is.nx in
+      let sizes : size_of sides ≡ size x y z = rw (is.nx, is.ny, is.nz) in
+      rw (← sizes, ← same) holds
 
 -- the first layer begins at the first sample, and the first stretch where its layer does
 pub layer_first_lem : (sides : Sides) → layer_first sides 0 ≡ 0

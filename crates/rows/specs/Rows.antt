@@ -30,6 +30,24 @@ grid_samples sides samples = zeros_below (sides.nx * sides.ny) sides.below sampl
 abbrev pub cut : Sides → List ℕ → ℕ → Bool
 cut sides masks = crossed axes (size_of sides) (words_above sides masks)
 
+-- the sides of a grid whose layers from `first` on are lent, with the words of their rows
+pub record SidesOf (x y z first : ℕ) (sides : Sides) : Type 0 where
+  pub nx : sides.nx ≡ x
+  pub ny : sides.ny ≡ y
+  pub nz : sides.nz ≡ z
+  pub words : sides.words ≡ row_words sides.nx
+  pub last : AllSet (last_samples sides.nx) sides.last
+  pub below : sides.below ≡ first
+
+-- The sides are within the limits, and the words of a row and the mask of its last are theirs. All layers of the grid have their words.
+pub record Whole (sides : Sides) (masks : List ℕ) : Type 0 where
+  pub fit : SidesFit sides.nx sides.ny sides.nz
+  pub words : sides.words ≡ row_words sides.nx
+  pub last : AllSet (last_samples sides.nx) sides.last
+  pub none : sides.below ≡ 0
+  pub rows : row_words sides.nx * (sides.ny * sides.nz) ≤ length masks
+  pub agree : Agreeing sides.nx (sides.ny * sides.nz) masks
+
 -- The sides are within the limits, and the words of a row and the mask of its last are theirs. So many layers from `below` on have their words,
 -- among them layer z and, where there is one, the layer over it.
 pub record Ready (sides : Sides) (z : ℕ) (masks : List ℕ) : Type 0 where

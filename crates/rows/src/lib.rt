@@ -6,7 +6,7 @@ ghost use Rattle.std.specs.Prelude.{◌≡◌, true, cond, ◌<◌, ◌≤◌, l
 ghost use Rattle.laws.specs.Bits.{word_bits};
 ghost use Rattle.grid.specs.Work.{SidesFit};
 ghost use Rattle.masks.specs.Masks.{row_words};
-ghost use Rattle.rows.specs.Rows.{Ready, Stands, Addable, first_stretch, next_stretch, own_samples, cubes_mask, samples_mask, CutWords, cuts_at};
+ghost use Rattle.rows.specs.Rows.{SidesOf, Ready, Stands, Addable, first_stretch, next_stretch, own_samples, cubes_mask, samples_mask, CutWords, cuts_at};
 
 use masks::{WORD_CUBES, WORD_SAMPLES};
 
@@ -22,6 +22,23 @@ pub struct Sides {
     pub words: usize,
     pub last: u64,
     pub below: usize,
+}
+
+impl Sides {
+    // The sides of a grid of which the layers from `below` on are lent.
+    pub fn new(nx: usize, ny: usize, nz: usize, below: usize) -> Sides
+        requires { 2 ≤ nx }
+        ensures { SidesOf nx ny nz below result }
+    {
+        Sides {
+            nx,
+            ny,
+            nz,
+            words: masks::row_words(nx),
+            last: masks::last_mask(nx),
+            below,
+        }
+    }
 }
 
 // A stretch of a row, which is what one word has of it: how many samples the row has from its first on, its first sample's y and number in the grid, and its word's place among those lent.

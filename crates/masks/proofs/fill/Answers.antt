@@ -1,5 +1,5 @@
 -- `masks::fill` meets its contract. The rows of the batches passed have their words.
-use mathlib.Core.Path.{◌≡◌, refl, sym, ◌∙◌}
+use mathlib.Core.Path.{refl, ◌∙◌}
 use Prim.Native.Nat.{ℕ, ◌+◌, ◌*◌, ◌<◌, ◌≤◌}
 use native.Mathlib.Nat.{mul-zero, mul-add, mul-le-mul_left}
 use native.Mathlib.Omega.{arith}
@@ -10,7 +10,7 @@ use Rattle.masks.specs.Flags.{flag_bytes, most_flagged, AreFlags}
 use Rattle.masks.proofs.Flags.{still_flags}
 use Rattle.masks.proofs.Rows.{batch_next, some_row, batch_fits}
 use Rattle.masks.proofs.fill.Goals as goal
-use Rattle.masks.proofs.fill.Goals.{After-flag_lent, After-least-many}
+use Rattle.masks.proofs.fill.Goals.{After-flag_lent, After-min-many}
 
 pub loop-r-init : goal.loop-r-init
 loop-r-init c =
@@ -25,28 +25,25 @@ record Batch (nx rows r many : ℕ) : Type 0 where
   within : nx * r + nx * many ≤ nx * rows
   words : row_words nx * r + row_words nx * many ≤ row_words nx * rows
 
-batch : (c : After-least-many)
-    → Batch c.args.nx c.args.rows c.loop-r.r c.least-many.result
+batch : (c : After-min-many)
+    → Batch c.args.nx c.args.rows c.loop-r.r c.min-many.result
 batch c =
     let a = c.args in
     let l = c.loop-r in
-    let least = c.least-many.ensures in
-    let left : l.r + c.least-many.result ≤ a.rows = omega (arith, least) in
-    let within : (m : ℕ) → m * l.r + m * c.least-many.result ≤ m * a.rows = λ m. omega (arith, mul-add m l.r c.least-many.result, mul-le-mul_left m left) in
+    let least = c.min-many.ensures in
+    let left : l.r + c.min-many.result ≤ a.rows = omega (arith, least) in
+    let within : (m : ℕ) → m * l.r + m * c.min-many.result ≤ m * a.rows = λ m. omega (arith, mul-add m l.r c.min-many.result, mul-le-mul_left m left) in
     record {
       some = omega (arith, least, some_row a.nx (omega arith) most_flagged (omega arith));
-      fits = batch_fits a.nx (omega arith) most_flagged c.least-many.result (omega (arith, least));
+      fits = batch_fits a.nx (omega arith) most_flagged c.min-many.result (omega (arith, least));
       left = left;
       within = within a.nx;
       words = within (row_words a.nx);
     }
 
-pub slice_bounds-flag_lent-end : goal.slice_bounds-flag_lent-end
-slice_bounds-flag_lent-end c = sym c.loop-r.invariant.1
-
 pub flag_lent-requires : goal.flag_lent-requires
 flag_lent-requires c =
-    let l = c.loop-r in record { many_in_bounds = omega (arith, batch (goal.at.flag_lent-requires c).After-least-many); many_in_bounds_2 = omega (arith, batch (goal.at.flag_lent-requires c).After-least-many, l.invariant.1) }
+    let l = c.loop-r in record { many_in_bounds = omega (arith, batch (goal.at.flag_lent-requires c).After-min-many); many_in_bounds_2 = omega (arith, batch (goal.at.flag_lent-requires c).After-min-many, l.invariant.1) }
 
 -- flags stay flags
 flags_next : (c : After-flag_lent) → AreFlags c.flag_lent.new.flags
@@ -57,14 +54,8 @@ flags_next c =
 
 pub mask_rows-to-requires : goal.mask_rows-to-requires
 mask_rows-to-requires c =
-    let batch = batch (goal.at.mask_rows-to-requires c).After-least-many in
+    let batch = batch (goal.at.mask_rows-to-requires c).After-min-many in
     let l = c.loop-r in record { le_nx = (omega arith, batch.fits); are_flags = flags_next (goal.at.mask_rows-to-requires c).After-flag_lent; many_in_bounds = omega (arith, batch.words, l.invariant.0, l.invariant.4) }
-
-pub overflow_add-r : goal.overflow_add-r
-overflow_add-r c = omega (arith, (batch (goal.at.overflow_add-r c).After-least-many).left)
-
-pub loop-r-smaller : goal.loop-r-smaller
-loop-r-smaller c = omega (arith, (batch (goal.at.loop-r-smaller c).After-least-many).some)
 
 pub loop-r-preserved : goal.loop-r-preserved
 loop-r-preserved c =
@@ -74,17 +65,8 @@ loop-r-preserved c =
     let masked = c.mask_rows-to in (
       masked.auto.masks ∙ l.invariant.0,
       flagged.auto.flags ∙ l.invariant.1,
-      (batch (goal.at.loop-r-preserved c).After-least-many).left,
+      (batch (goal.at.loop-r-preserved c).After-min-many).left,
       flags_next (goal.at.loop-r-preserved c).After-flag_lent,
-      omega (arith, masked.ensures.value, l.invariant.4, mul-add (row_words a.nx) l.r c.least-many.result),
+      omega (arith, masked.ensures.value, l.invariant.4, mul-add (row_words a.nx) l.r c.min-many.result),
       batch_next a.nx a.grey (lent_samples a.kept.now a.samples.now) l.flags l.r flagged.ensures l.invariant.4 l.invariant.5 masked.ensures.gathered,
     )
-
-pub shape_of-masks : goal.shape_of-masks
-shape_of-masks c = c.loop-r.invariant.0
-
-pub returns : goal.returns
-returns c =
-    let l = c.loop-r in
-    let all : l.r ≡ c.args.rows = omega arith in
-    rw (← all) l.invariant.5

@@ -1,5 +1,5 @@
 -- `masks::flag_kept` meets its contract. The kept samples passed are flagged.
-use mathlib.Core.Path.{◌≡◌, refl, sym}
+use mathlib.Core.Path.{refl, sym}
 use mathlib.Core.List.{map}
 use Prim.Native.Nat.{ℕ, ◌+◌}
 use native.Mathlib.Omega.{arith}
@@ -29,12 +29,3 @@ loop-i-preserved c =
       omega arith,
       rw (l.invariant.2, c.kept_flag.ensures, ← here) (laid_more l.i flag a.flags.now (omega (arith, l.invariant.0))),
     )
-
-pub shape_of-flags : goal.shape_of-flags
-shape_of-flags c = c.loop-i.invariant.0
-
-pub returns : goal.returns
-returns c =
-    let l = c.loop-i in
-    let all : l.i ≡ c.args.many = omega arith in
-    rw (← all) l.invariant.2

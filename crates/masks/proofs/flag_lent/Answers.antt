@@ -1,27 +1,18 @@
 -- `masks::flag_lent` meets its contract: the samples are past the kept ones, or some of them are kept.
 use mathlib.Core.Path.{◌≡◌, ap, ◌∙◌}
 use mathlib.Core.List.{map}
-use Prim.Native.Nat.{◌+◌, ◌-◌, ◌≤◌}
+use Prim.Native.Nat.{◌+◌, ◌-◌}
 use native.Mathlib.Omega.{arith}
 use lib.ListN.{length}
 use lib.Seq.{sets}
 use Rattle.laws.specs.Room.{laid}
 use Rattle.laws.proofs.Writes.{sets_front, laid_sets}
 use Rattle.grid.specs.Work.{sample_of, lent_samples}
-use Rattle.grid.proofs.Lent.{length_lent}
 use Rattle.masks.specs.Flags.{flags_from}
 use Rattle.masks.proofs.Flags.{length_flags}
 use Rattle.masks.proofs.Lent.{flags_past, flags_both}
 use Rattle.masks.proofs.flag_lent.Goals as goal
 use Rattle.masks.proofs.flag_lent.Goals.{Start}
-
--- the start, from either branch, and how many samples are lent
-
-lent : (c : Start) → c.args.start + c.args.many ≤ length c.args.kept.now + length c.args.samples.now
-lent c = omega (arith, c.requires.many_in_bounds, length_lent c.args.kept.now c.args.samples.now)
-
-pub flag_samples-requires : goal.flag_samples-requires
-flag_samples-requires c = record { many_in_bounds = omega (arith, lent (goal.at.flag_samples-requires c).Start, c.if-end-start.true); many_in_bounds_2 = omega (arith, c.requires.many_in_bounds_2) }
 
 pub returns-then-end-start : goal.returns-then-end-start
 returns-then-end-start c =
@@ -33,17 +24,14 @@ returns-then-end-start c =
     ∙ sets_front a.flags.now _ (omega (arith, length_flags a.grey samples from a.many, c.requires.many_in_bounds_2))
     ∙ ap (λ flags. laid flags a.flags.now) (flags_past kept samples a.grey a.start a.many from (omega (arith, c.if-end-start.true)))
 
-pub flag_samples-requires-2 : goal.flag_samples-requires-2
-flag_samples-requires-2 c = record { many_in_bounds = omega (arith, lent (goal.at.flag_samples-requires-2 c).Start, c.least-here.ensures, c.if-end-start.false); many_in_bounds_2 = omega (arith, c.requires.many_in_bounds_2, c.least-here.ensures, c.flag_kept.auto.flags) }
-
 pub returns : goal.returns
 returns c =
     let a = c.args in
     let kept = c.args.kept.now in
     let samples = c.args.samples.now in
-    let here = c.least-here.result in
+    let here = c.min-here.result in
     let rest = a.many - here in
-    let is = c.least-here.ensures in
+    let is = c.min-here.ensures in
     let all : here + rest ≡ a.many = omega (arith, is) in
     let first = flags_from a.grey (map sample_of kept) a.start here in
     let others = flags_from a.grey samples 0 rest in

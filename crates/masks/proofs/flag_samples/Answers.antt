@@ -1,5 +1,5 @@
 -- `masks::flag_samples` meets its contract. The samples passed are flagged.
-use mathlib.Core.Path.{◌≡◌, refl, sym}
+use mathlib.Core.Path.{refl, sym}
 use Prim.Native.Nat.{ℕ, ◌+◌}
 use native.Mathlib.Omega.{arith}
 use lib.Dec.{leb}
@@ -24,12 +24,3 @@ loop-i-preserved c =
       omega arith,
       rw (l.invariant.2, c.above_flag.ensures) (run_more a.flags.now a.at l.i flag),
     )
-
-pub shape_of-flags : goal.shape_of-flags
-shape_of-flags c = c.loop-i.invariant.0
-
-pub returns : goal.returns
-returns c =
-    let l = c.loop-i in
-    let all : l.i ≡ c.args.many = omega arith in
-    rw (← all) l.invariant.2

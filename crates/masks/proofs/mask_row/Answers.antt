@@ -1,15 +1,12 @@
 -- `masks::mask_row` meets its contract. The words passed are gathered, and two samples or more are left.
-use mathlib.Core.Path.{◌≡◌, refl}
+use mathlib.Core.Path.{◌≡◌}
 use Prim.Native.Nat.{◌+◌}
 use native.Mathlib.Omega.{arith}
 use lib.ListN.{length-set}
 use Rattle.laws.specs.Bits.{word_bits}
 use Rattle.masks.specs.Masks.{row_words}
-use Rattle.masks.proofs.Rows.{samples_within, words_none, words_next, words_all}
+use Rattle.masks.proofs.Rows.{samples_within, words_next, words_all}
 use Rattle.masks.proofs.mask_row.Goals as goal
-
-pub loop-left-init : goal.loop-left-init
-loop-left-init c = (refl, omega arith, omega arith, omega arith, words_none)
 
 pub loop-left-preserved : goal.loop-left-preserved
 loop-left-preserved c =
@@ -20,9 +17,6 @@ loop-left-preserved c =
       omega arith,
       words_next l.left word_bits (omega arith) (omega arith) (omega arith) (λ i li ll. li) c.word_mask.ensures l.invariant.4,
     )
-
-pub shape_of-masks : goal.shape_of-masks
-shape_of-masks c = simp length-set c.loop-left.invariant.0
 
 pub returns : goal.returns
 returns c =

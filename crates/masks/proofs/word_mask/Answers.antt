@@ -1,16 +1,10 @@
 -- `masks::word_mask` meets its contract.
 use Prim.Native.Nat.{◌/◌}
 use native.Mathlib.Omega.{arith}
-use borrow.Author.Tests.{le-leb, lt-leb}
+use borrow.Author.Tests.{lt-leb}
 use Rattle.laws.specs.Bits.{word_bits}
 use Rattle.masks.proofs.Gather.{mask_join}
 use Rattle.masks.proofs.word_mask.Goals as goal
-
-pub returns-then-many-le-QUARTER_WORD : goal.returns-then-many-le-QUARTER_WORD
-returns-then-many-le-QUARTER_WORD c = rw (le-leb _ _ c.if-many-le-QUARTER_WORD.true) c.quarter_mask.ensures.0
-
-pub returns-then-many-le-HALF_WORD : goal.returns-then-many-le-HALF_WORD
-returns-then-many-le-HALF_WORD c = rw (lt-leb _ _ c.if-many-le-QUARTER_WORD.false, le-leb _ _ c.if-many-le-HALF_WORD.true) c.half_mask-low.ensures.0
 
 pub returns : goal.returns
 returns c =

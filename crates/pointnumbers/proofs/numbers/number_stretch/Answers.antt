@@ -1,6 +1,5 @@
 -- `pointnumbers::numbers::number_stretch` meets its contract. The invariant: the walk has passed some samples of the stretch, whose edges are numbered, and the busy word has the bits of those left.
 --
-use mathlib.Core.Path.{sym, ◌∙◌}
 use Prim.Native.Nat.{◌+◌, ◌*◌, ◌<◌, ◌≤◌}
 use native.Mathlib.Omega.{arith}
 use lib.Count.{count_trailing_zeros}
@@ -15,9 +14,6 @@ use Rattle.pointnumbers.proofs.Numbering.{numbers_few}
 use Rattle.pointnumbers.proofs.Walk.{walk_first, walk_last, next_busy, walk_to, walk_on}
 use Rattle.pointnumbers.proofs.numbers.number_stretch.Goals as goal
 use Rattle.pointnumbers.proofs.numbers.number_stretch.Goals.{After-loop-busy, In-loop-busy, Start}
-
-pub crossed_at-crossed-requires : goal.crossed_at-crossed-requires
-crossed_at-crossed-requires c = record { ready = c.requires.ready; stands = c.requires.stands; y_lt_ny = c.requires.y_lt_ny; z_lt_nz = c.requires.z_lt_nz }
 
 pub loop-busy-init : goal.loop-busy-init
 loop-busy-init c =
@@ -59,24 +55,9 @@ edges_there c =
 few : (c : Start) → edge_count axes (size_of c.args.sides) ≤ most_edges
 few c = edges_few c.args.sides c.requires.ready.fit
 
-pub overflow_cast-e : goal.overflow_cast-e
-overflow_cast-e c = omega (arith, (found_next (goal.at.overflow_cast-e c).In-loop-busy).small)
-
-pub overflow_add-e : goal.overflow_add-e
-overflow_add-e c = omega (arith, edges_there (goal.at.overflow_add-e c).In-loop-busy, few (goal.at.overflow_add-e c).Start)
-
-pub overflow_mul-e : goal.overflow_mul-e
-overflow_mul-e c = omega (arith, edges_there (goal.at.overflow_mul-e c).In-loop-busy, few (goal.at.overflow_mul-e c).Start)
-
-pub cuts-requires : goal.cuts-requires
-cuts-requires c = (found_next (goal.at.cuts-requires c).In-loop-busy).small
-
 pub number_sample-n-requires : goal.number_sample-n-requires
 number_sample-n-requires c =
     let so = numbered_there (goal.at.number_sample-n-requires c).In-loop-busy in record { n_le_e = numbers_few c.args.sides c.args.masks.now _ _ _ so; e_in_bounds = omega (arith, so.whole, edges_there (goal.at.number_sample-n-requires c).In-loop-busy); work_len_bound = omega (arith, so.whole, few (goal.at.number_sample-n-requires c).Start) }
-
-pub loop-busy-smaller : goal.loop-busy-smaller
-loop-busy-smaller c = (found_next (goal.at.loop-busy-smaller c).In-loop-busy).falls
 
 pub loop-busy-preserved : goal.loop-busy-preserved
 loop-busy-preserved c =
@@ -89,6 +70,3 @@ loop-busy-preserved c =
 pub returns : goal.returns
 returns c =
     walk_last _ _ _ _ _ _ _ _ _ c.loop-busy.invariant c.args.sides c.crossed_at-crossed.ensures c.requires.numbered_to c.loop-busy-test.false
-
-pub shape_of-work : goal.shape_of-work
-shape_of-work c = (returns (goal.at.shape_of-work c).After-loop-busy).whole ∙ sym c.requires.numbered_to.whole
