@@ -39,10 +39,7 @@ fn is_outer(along: u32, c: usize, side: usize) -> bool
     requires side_le_most_side { side ≤ most_side }
     ensures { result ≡ (eqb along 0 && is_end c side) }
 {
-    if along == 0 {
-        return grid::outermost(c as u32, side as u32);
-    }
-    false
+    along == 0 && grid::outermost(c as u32, side as u32)
 }
 
 // The mark of a point whose edge leaves a sample in a direction (1 along x, 2 along y, 4 along z).
@@ -50,16 +47,10 @@ fn mark_of(sides: Sides, at: Sample, d: u32) -> u8
     requires { Standing sides at }
     ensures { result ≡ one_if (some_face (λ axis last. on_face_from axes (size_of sides) axis last at.s d)) }
 {
-    if is_outer(d % 2, at.x, sides.nx) {
-        return 1;
-    }
-    if is_outer(d / 2 % 2, at.y, sides.ny) {
-        return 1;
-    }
-    if is_outer(d / 4 % 2, at.z, sides.nz) {
-        return 1;
-    }
-    0
+    let across_x = is_outer(d % 2, at.x, sides.nx);
+    let across_y = is_outer(d / 2 % 2, at.y, sides.ny);
+    let across_z = is_outer(d / 4 % 2, at.z, sides.nz);
+    u8::from(across_x || across_y || across_z)
 }
 
 // The direction along an axis.

@@ -1,15 +1,9 @@
 -- `edgepoints::step_of` meets its contract, axis by axis.
 use mathlib.Core.Path.{◌≡◌, sym}
-use native.Mathlib.Nat.{mul-le-mul}
 use native.Mathlib.Omega.{arith}
 use Rattle.grid.proofs.Crossings.{step_x, step_y, step_z}
 use Rattle.rows.specs.Rows.{size_of}
 use Rattle.edgepoints.proofs.step_of.Goals as goal
-
-pub overflow_mul-result : goal.overflow_mul-result
-overflow_mul-result c =
-    let fit = c.requires.sides_fit in
-    omega (arith, mul-le-mul fit.most_x fit.most_y)
 
 pub returns-in-0 : goal.returns-in-0
 returns-in-0 c = rw c.in-0.is (sym (step_x (size_of c.args.sides)))
