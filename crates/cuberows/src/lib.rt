@@ -7,9 +7,8 @@ ghost use Rattle.laws.specs.Bits.{word_bits};
 ghost use Rattle.cube.specs.Promise.{Counts};
 ghost use Rattle.grid.specs.Mode.{cubes};
 ghost use Rattle.grid.specs.Mesh.{edge_mesh};
-ghost use Rattle.grid.specs.Work.{size, SidesFit, found_row};
-ghost use Rattle.masks.specs.Masks.{row_words, mask_above, Agreeing};
-ghost use Rattle.rows.specs.Rows.{Ready, size_of, words_above};
+ghost use Rattle.grid.specs.Work.{found_row};
+ghost use Rattle.rows.specs.Rows.{Whole, Ready, size_of, words_above};
 ghost use Rattle.cuberows.specs.Cubes.{corners_at, read_case, BusyCubes, RowFound, FoundIn, FoundCubes, stretch_count, layer_count};
 
 use cube::CASES;
@@ -73,10 +72,11 @@ pub fn busy_cubes(found: &[u64], y: usize, z: usize, corners: Corners, cubes: u6
     requires { (length found.now ≡ 0 → ⊥) → RowFound found.now (found_row y z) corners cubes }
     ensures { BusyCubes corners cubes result }
 {
-    if found.len() == 0 {
-        return corners.busy(cubes);
+    if found.is_empty() {
+        corners.busy(cubes)
+    } else {
+        found[y + FOUND_ROWS * z]
     }
-    found[y + FOUND_ROWS * z]
 }
 
 // How many triangles some cubes of a stretch have, a bit each.
@@ -121,23 +121,13 @@ pub fn count_layer(
 }
 
 // How many triangles the grid has; `found` has words of found cubes, or none at all.
-pub fn count(nx: usize, ny: usize, nz: usize, masks: &[u64], found: &[u64]) -> u32
-    requires sides_fit { SidesFit nx ny nz }
-    requires nz_in_bounds { row_words nx * (ny * nz) ≤ length masks.now }
-    requires agreeing { Agreeing nx (ny * nz) masks.now }
-    requires found_cubes { FoundCubes (size nx ny nz) (mask_above nx masks.now) found.now }
-    ensures { result ≡ length (edge_mesh cubes (size nx ny nz) (mask_above nx masks.now)) }
+pub fn count(sides: Sides, masks: &[u64], found: &[u64]) -> u32
+    requires whole { Whole sides masks.now }
+    requires found_cubes { FoundCubes (size_of sides) (words_above sides masks.now) found.now }
+    ensures { result ≡ length (edge_mesh cubes (size_of sides) (words_above sides masks.now)) }
 {
     let counts = cube::counts();
-    let sides = Sides {
-        nx,
-        ny,
-        nz,
-        words: masks::row_words(nx),
-        last: masks::last_mask(nx),
-        below: 0,
-    };
-    let last = nz - 1;
+    let last = sides.nz - 1;
     let mut sum = 0;
     for z in 0..last {
         sum += count_layer(&counts, sides, z, masks, found);

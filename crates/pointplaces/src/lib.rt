@@ -7,8 +7,8 @@ ghost use mathlib.Core.List.{map, flat_map};
 ghost use Rattle.laws.specs.Room.{laid};
 ghost use Rattle.grid.specs.Grid.{axes, sample_count, mark};
 ghost use Rattle.grid.specs.Point.{point_edges, place as place_of};
-ghost use Rattle.grid.specs.Work.{size, SidesFit};
-ghost use Rattle.masks.specs.Masks.{row_words, mask_above, Masked};
+ghost use Rattle.masks.specs.Masks.{Masked};
+ghost use Rattle.rows.specs.Rows.{Whole, size_of, words_above};
 
 pub mod places;
 
@@ -17,9 +17,7 @@ use rows::Sides;
 
 // Writes the points' places, grid edges and marks to the front of their rooms.
 pub fn place(
-    nx: usize,
-    ny: usize,
-    nz: usize,
+    sides: Sides,
     grey: u16,
     samples: &[u16],
     masks: &[u64],
@@ -27,35 +25,24 @@ pub fn place(
     edges: &mut [u32],
     marks: &mut [u8],
 )
-    requires sides_fit { SidesFit nx ny nz }
-    requires nz_in_bounds { row_words nx * (ny * nz) ≤ length masks.now }
-    requires samples_len { length samples.now ≡ sample_count (size nx ny nz) }
-    requires masked { Masked nx (ny * nz) grey samples.now masks.now }
-    requires masks_in_bounds { 3 * length (point_edges axes (size nx ny nz) (mask_above nx masks.now)) ≤ length points.old }
-    requires masks_in_bounds_2 { length (point_edges axes (size nx ny nz) (mask_above nx masks.now)) ≤ length edges.old }
-    requires masks_in_bounds_3 { length (point_edges axes (size nx ny nz) (mask_above nx masks.now)) ≤ length marks.old }
-    ensures places { let found = point_edges axes (size nx ny nz) (mask_above nx masks.now) in
-        points.new ≡ laid (flat_map (place_of axes (size nx ny nz) grey samples.now) found) points.old }
-    ensures edges { let found = point_edges axes (size nx ny nz) (mask_above nx masks.now) in
+    requires whole { Whole sides masks.now }
+    requires samples_len { length samples.now ≡ sample_count (size_of sides) }
+    requires masked { Masked sides.nx (sides.ny * sides.nz) grey samples.now masks.now }
+    requires masks_in_bounds { 3 * length (point_edges axes (size_of sides) (words_above sides masks.now)) ≤ length points.old }
+    requires masks_in_bounds_2 { length (point_edges axes (size_of sides) (words_above sides masks.now)) ≤ length edges.old }
+    requires masks_in_bounds_3 { length (point_edges axes (size_of sides) (words_above sides masks.now)) ≤ length marks.old }
+    ensures places { let found = point_edges axes (size_of sides) (words_above sides masks.now) in
+        points.new ≡ laid (flat_map (place_of axes (size_of sides) grey samples.now) found) points.old }
+    ensures edges { let found = point_edges axes (size_of sides) (words_above sides masks.now) in
         edges.new ≡ laid found edges.old }
-    ensures marks { let found = point_edges axes (size nx ny nz) (mask_above nx masks.now) in
-        marks.new ≡ laid (map (mark axes (size nx ny nz)) found) marks.old }
+    ensures marks { let found = point_edges axes (size_of sides) (words_above sides masks.now) in
+        marks.new ≡ laid (map (mark axes (size_of sides)) found) marks.old }
 {
-    let sides = Sides {
-        nx,
-        ny,
-        nz,
-        words: masks::row_words(nx),
-        last: masks::last_mask(nx),
-        below: 0,
-    };
     let none_kept = [0u32; 0];
     let mut n: usize = 0;
-    let mut z: usize = 0;
-    while z < nz {
+    for z in 0..sides.nz {
         n = place_layer(
             sides, grey, z, n, &none_kept, samples, masks, points, edges, marks,
         );
-        z += 1;
     }
 }

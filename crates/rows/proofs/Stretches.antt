@@ -32,7 +32,7 @@ words_most nx ny nz fit =
     mul-le-mul {n₁ = row_words nx} {m₁ = ny * nz} {n₂ = row_words most_side} {m₂ = most_rows} (omega (arith, fit.most_x)) (rows_most nx ny nz fit)
 
 -- where the words of all layers are lent, every layer is ready
-pub whole_ready : (sides : Sides) (masks : List ℕ) → Whole sides masks → (z : ℕ) → z < sides.nz → Ready sides z masks
+abbrev pub whole_ready : (sides : Sides) (masks : List ℕ) → Whole sides masks → (z : ℕ) → z < sides.nz → Ready sides z masks
 whole_ready sides masks whole z h = record {
   fit = whole.fit;
   words = whole.words;

@@ -5,15 +5,12 @@ use native.Mathlib.Omega.{arith}
 use Rattle.laws.proofs.Ranges.{sum_split}
 use Rattle.cube.specs.Answer.{count}
 use Rattle.rows.specs.Rows.{Stands, first_x, own_cubes, cubes_mask, first_stretch}
-use Rattle.rows.proofs.Stretches.{stands_first, stands_next, word_there, stretch_addable, cubes_most}
+use Rattle.rows.proofs.Stretches.{stands_first, stands_next, word_there, cubes_most}
 use Rattle.cuberows.specs.Cubes.{corners_at, BusyCubes, stretch_count, cube_case}
 use Rattle.cuberows.proofs.Layers.{counted_to, counted_none, counted_row, counted_all, counted_most, Within, cubes_next, corners_there, stretch_count_lem}
 use Rattle.cuberows.proofs.Found.{row_found}
 use Rattle.cuberows.proofs.count_layer.Goals as goal
 use Rattle.cuberows.proofs.count_layer.Goals.{After-count_stretch-sum}
-
-pub first-at-requires : goal.first-at-requires
-first-at-requires c = record { sides_fit = c.requires.ready.fit; words_value = c.requires.ready.words; below_le_z = (c.requires.ready.from, omega (arith, c.requires.z_bound)) }
 
 pub loop-at-init : goal.loop-at-init
 loop-at-init c =
@@ -26,9 +23,6 @@ loop-at-init c =
       (omega (arith, ready.fit.least_y), λ e. none),
       rw none (counted_none a.sides a.masks.now a.z),
     )
-
-pub overflow_add-at : goal.overflow_add-at
-overflow_add-at c = omega (arith, c.loop-at.invariant.1.0, c.requires.ready.fit.most_y)
 
 -- from a turn back to the function's entry
 
@@ -43,9 +37,6 @@ busy_cubes-busy-requires c =
     let l = c.loop-at in
     rw (c.corners_at-corners.ensures, c.cubes_mask-cubes.ensures)
     (row_found a.sides a.masks.now a.z c.requires.ready l.at l.invariant.0 c.loop-at-test.true c.requires.z_bound a.found.now c.requires.found_in)
-
-pub count_stretch-sum-requires : goal.count_stretch-sum-requires
-count_stretch-sum-requires c = c.requires.counts
 
 -- what is counted of the stretch, and what then is counted in all
 added : (c : After-count_stretch-sum)
@@ -84,11 +75,6 @@ overflow_add-sum c =
       fit.most_x,
       fit.most_y,
     )
-
-pub next-at-requires : goal.next-at-requires
-next-at-requires c =
-    let l = c.loop-at in
-    stretch_addable c.args.sides c.args.z l.at l.invariant.0 l.invariant.1.0 (omega (arith, c.requires.z_bound)) c.requires.ready.fit
 
 pub loop-at-smaller : goal.loop-at-smaller
 loop-at-smaller c =

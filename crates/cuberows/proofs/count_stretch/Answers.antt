@@ -28,30 +28,15 @@ next_here c =
     let l = c.loop-busy in
     next_bit word_bits c.args.cubes l.invariant.0 l.busy l.invariant.2 l.invariant.3 c.loop-busy-test.true
 
-pub case-case-requires : goal.case-case-requires
-case-case-requires c = (next_here (goal.at.case-case-requires c).In-loop-busy).small
-
 -- the case that was read, and its count
 read : (c : After-case-case) → CaseRead c.args.counts.now c.args.corners ((let it : ℕ = count_trailing_zeros word_bits c.loop-busy.busy in it)) c.case-case.result
 read c = case_read c.args.counts.now c.args.corners ((let it : ℕ = count_trailing_zeros word_bits c.loop-busy.busy in it)) _ c.requires c.case-case.ensures
-
-pub bounds-counts-case : goal.bounds-counts-case
-bounds-counts-case c = (read (goal.at.bounds-counts-case c).After-case-case).small
-
-pub overflow_cast-sum : goal.overflow_cast-sum
-overflow_cast-sum c = omega (arith, (read (goal.at.overflow_cast-sum c).After-case-case).few)
 
 pub overflow_add-sum : goal.overflow_add-sum
 overflow_add-sum c =
     let l = c.loop-busy in
     let a = c.args in
     omega (arith, (read (goal.at.overflow_add-sum c).After-case-case).few, l.invariant.1, l.invariant.4, busy_most a.corners a.cubes l.invariant.0)
-
-pub overflow_sub-busy : goal.overflow_sub-busy
-overflow_sub-busy c = omega (arith, c.loop-busy-test.true)
-
-pub loop-busy-smaller : goal.loop-busy-smaller
-loop-busy-smaller c = (next_here (goal.at.loop-busy-smaller c).In-loop-busy).falls
 
 pub loop-busy-preserved : goal.loop-busy-preserved
 loop-busy-preserved c =

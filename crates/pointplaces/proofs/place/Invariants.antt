@@ -1,5 +1,5 @@
 -- `pointplaces::place` meets its contract. The invariant: the points on the edges before the layer at z are placed.
-use Prim.Native.Nat.{◌*◌, ◌-◌, ◌≤◌}
+use Prim.Native.Nat.{◌*◌}
 use Rattle.rows.specs.Rows.{layer_first}
 use Rattle.edgepoints.specs.EdgePoint.{point_rooms}
 use Rattle.pointplaces.specs.Places.{Placed}
@@ -7,9 +7,5 @@ use Rattle.pointplaces.proofs.Placing.{SameLengths}
 use Rattle.pointplaces.proofs.place.Given as goal
 
 abbrev pub invariant-loop-z : goal.invariant-loop-z
-invariant-loop-z l = (l.z ≤ l.nz)
-    × SameLengths (point_rooms l.initial.points l.initial.edges l.initial.marks) (point_rooms l.points l.edges l.marks)
+invariant-loop-z l = SameLengths (point_rooms l.initial.points l.initial.edges l.initial.marks) (point_rooms l.points l.edges l.marks)
     × Placed l.sides l.grey l.samples l.masks (3 * layer_first l.sides 0) (3 * layer_first l.sides l.z) 0 l.n (point_rooms l.initial.points l.initial.edges l.initial.marks) (point_rooms l.points l.edges l.marks)
-
-abbrev pub decreases-loop-z : goal.decreases-loop-z
-decreases-loop-z l = l.nz - l.z

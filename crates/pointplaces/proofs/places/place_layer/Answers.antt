@@ -1,27 +1,19 @@
 -- `pointplaces::places::place_layer` meets its contract. The invariant: the next stretch stands in the layer, or where the next layer begins, and the points on
 -- the edges before its own are placed. Each turn leaves a word less.
-use mathlib.Core.Path.{refl, ap, subst, ◌∙◌}
+use mathlib.Core.Path.{refl, ap, ◌∙◌}
 use Prim.Native.Nat.{◌+◌, ◌*◌, ◌<◌}
 use native.Mathlib.Omega.{arith}
 use Rattle.grid.specs.Work.{lent_samples}
 use Rattle.rows.specs.Rows.{own_samples, layer_first}
 use Rattle.edgepoints.specs.EdgePoint.{PointRooms, point_rooms}
-use Rattle.pointplaces.specs.Places.{Placed}
-use Rattle.rows.proofs.Stretches.{stands_first, stands_next, layer_end, stretch_end, word_there, stretch_addable}
+use Rattle.rows.proofs.Stretches.{stands_first, stands_next, stretch_end, word_there}
 use Rattle.pointplaces.proofs.Placing.{room_less, room_kept, number_within, placed_none, placed_on}
 use Rattle.pointplaces.proofs.places.place_layer.Goals as goal
 use Rattle.pointplaces.proofs.places.place_layer.Goals.{After-place_stretch-n, At-loop-at, In-loop-at, Start}
 
--- the start, from the loop's head
-
--- the loop's head, from a turn and from its end
-
 -- the rooms as they come, at the loop's head, and past a stretch
 abbrev first_rooms : Start → PointRooms
 first_rooms s = point_rooms s.args.points.now s.args.edges.now s.args.marks.now
-
-abbrev loop_rooms : At-loop-at → PointRooms
-loop_rooms l = point_rooms l.loop-at.points l.loop-at.edges l.loop-at.marks
 
 abbrev past_stretch : After-place_stretch-n → PointRooms
 past_stretch c =
@@ -30,10 +22,6 @@ past_stretch c =
 -- there is a next stretch
 row_there : (c : In-loop-at) → c.loop-at.at.y < c.args.sides.ny
 row_there c = omega arith
-
-pub first-at-requires : goal.first-at-requires
-first-at-requires c =
-    let pre = c.requires in record { sides_fit = pre.given.ready.fit; words_value = pre.given.ready.words; below_le_z = (pre.given.ready.from, pre.z_lt_nz) }
 
 pub loop-at-init : goal.loop-at-init
 loop-at-init c =
@@ -57,10 +45,6 @@ place_stretch-n-requires c =
     (omega (arith, stretch_end a.sides a.z c.loop-at.at c.loop-at.invariant.0 (row_there (goal.at.place_stretch-n-requires c).In-loop-at)))
     so.counted in record { given = c.requires.given; stands = c.loop-at.invariant.0; y_lt_ny = row_there (goal.at.place_stretch-n-requires c).In-loop-at; z_lt_nz = c.requires.z_lt_nz; rooms_for = room_kept c.loop-at.invariant.1 (room_less within c.requires.rooms_for) }
 
-pub next-at-requires : goal.next-at-requires
-next-at-requires c =
-    stretch_addable c.args.sides c.args.z c.loop-at.at c.loop-at.invariant.0 (row_there (goal.at.next-at-requires c).In-loop-at) c.requires.z_lt_nz c.requires.given.ready.fit
-
 pub loop-at-smaller : goal.loop-at-smaller
 loop-at-smaller c =
     omega (arith, ap (λ at. at.word) c.next-at.ensures, word_there c.args.sides c.args.masks.now c.args.z c.requires.given.ready c.loop-at.at c.loop-at.invariant.0 (row_there (goal.at.loop-at-smaller c).In-loop-at))
@@ -74,20 +58,3 @@ loop-at-preserved c =
       record { points = c.place_stretch-n.auto.points ∙ same.points; edges = c.place_stretch-n.auto.edges ∙ same.edges; marks = c.place_stretch-n.auto.marks ∙ same.marks },
       placed_on a.sides a.grey (lent_samples a.kept.now a.samples.now) a.masks.now {t = past_stretch (goal.at.loop-at-preserved c).After-place_stretch-n} c.loop-at.invariant.2 c.place_stretch-n.ensures,
     )
-
-pub shape_of-points : goal.shape_of-points
-shape_of-points c = c.loop-at.invariant.1.points
-
-pub shape_of-edges : goal.shape_of-edges
-shape_of-edges c = c.loop-at.invariant.1.edges
-
-pub shape_of-marks : goal.shape_of-marks
-shape_of-marks c = c.loop-at.invariant.1.marks
-
-pub returns : goal.returns
-returns c =
-    let a = c.args in
-    subst
-    (λ s. Placed a.sides a.grey (lent_samples a.kept.now a.samples.now) a.masks.now (3 * layer_first a.sides a.z) (3 * s) a.from c.loop-at.n (first_rooms (goal.at.returns c).Start) (loop_rooms (goal.at.returns c).At-loop-at))
-    (layer_end a.sides a.z c.loop-at.at c.loop-at.invariant.0 (omega arith))
-    c.loop-at.invariant.2

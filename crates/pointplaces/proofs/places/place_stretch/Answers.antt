@@ -2,18 +2,16 @@
 -- and the busy word has the bits of those left. It falls in each turn.
 use mathlib.Core.Path.{◌≡◌, refl, ◌∙◌}
 use mathlib.Core.List.{List}
-use Prim.Native.Nat.{ℕ, ◌+◌, ◌*◌, ◌-◌, ◌^◌, ◌<◌, ◌≤◌}
-use native.Mathlib.Nat.{mul-le-mul}
+use Prim.Native.Nat.{ℕ, ◌+◌, ◌*◌, ◌-◌, ◌<◌, ◌≤◌}
 use native.Mathlib.Omega.{arith}
 use lib.Count.{count_trailing_zeros}
 use Rattle.laws.specs.Bits.{word_bits}
 use Rattle.laws.proofs.Scan.{left_all}
-use Rattle.grid.specs.Limits.{most_side}
 use Rattle.grid.specs.Work.{lent_samples}
 use Rattle.rows.specs.Rows.{first_x, own_samples, layer_first}
 use Rattle.edgepoints.specs.EdgePoint.{PointRooms, point_rooms}
 use Rattle.pointplaces.specs.Places.{Placed}
-use Rattle.rows.proofs.Stretches.{below_before, first_x_lem, own_most, sample_is, stretch_addable}
+use Rattle.rows.proofs.Stretches.{below_before, first_x_lem, own_most, sample_is}
 use Rattle.rows.proofs.Busy.{busy_of, busy_small, Tested, tested, Found, found, rest_uncut}
 use Rattle.pointplaces.proofs.Placing.{room_kept, samples_passed, placed_none, placed_on, sample_passed}
 use Rattle.pointplaces.proofs.Ends.{sample_placeable}
@@ -37,28 +35,9 @@ abbrev past_sample : After-place_sample-n → PointRooms
 past_sample c =
     point_rooms c.place_sample-n.new.points c.place_sample-n.new.edges c.place_sample-n.new.marks
 
-pub crossed_at-crossed-requires : goal.crossed_at-crossed-requires
-crossed_at-crossed-requires c =
-    let pre = c.requires in record { ready = pre.given.ready; stands = pre.stands; y_lt_ny = pre.y_lt_ny; z_lt_nz = pre.z_lt_nz }
-
-pub overflow_sub-before : goal.overflow_sub-before
-overflow_sub-before c = omega (arith, c.requires.stands.along)
-
 -- the samples below those lent are before the stretch
 below_samples : (c : Start) → layer_first c.args.sides c.args.sides.below ≤ c.args.at.s
 below_samples c = below_before c.args.sides c.args.z c.args.at c.requires.stands
-
-small_sample : (c : Start) → c.args.at.s < 2 ^ 32
-small_sample c = (stretch_addable c.args.sides c.args.z c.args.at c.requires.stands c.requires.y_lt_ny c.requires.z_lt_nz c.requires.given.ready.fit).s
-
-pub overflow_mul-place : goal.overflow_mul-place
-overflow_mul-place c =
-    let a = c.args.sides in
-    let fit = c.requires.given.ready.fit in
-    omega (arith, mul-le-mul {n₁ = a.ny} {m₁ = a.below} {n₂ = most_side} {m₂ = most_side} fit.most_y (omega (arith, c.requires.stands.layer, c.requires.z_lt_nz, fit.most_z)))
-
-pub overflow_mul-place-2 : goal.overflow_mul-place-2
-overflow_mul-place-2 c = omega (arith, below_samples (goal.at.overflow_mul-place-2 c).Start, small_sample (goal.at.overflow_mul-place-2 c).Start)
 
 pub overflow_sub-place : goal.overflow_sub-place
 overflow_sub-place c = below_samples (goal.at.overflow_sub-place c).Start
@@ -82,7 +61,7 @@ found_at l = count_trailing_zeros word_bits l.loop-busy.busy
 
 next_busy : (c : In-loop-busy)
     → let a = c.args in
-    Found a.sides a.masks.now a.at.s (own_samples a.at.left) (busy_of c.crossed_at-crossed.result) c.loop-busy.invariant.0 c.loop-busy.busy ((let it : ℕ = count_trailing_zeros word_bits c.loop-busy.busy in it))
+    Found a.sides a.masks.now a.at.s (own_samples a.at.left) (busy_of c.crossed_at-crossed.result) c.loop-busy.invariant.0 c.loop-busy.busy (count_trailing_zeros word_bits c.loop-busy.busy)
 next_busy c =
     let a = c.args in
     found a.sides a.masks.now a.at.s (own_samples a.at.left) c.crossed_at-crossed.result c.crossed_at-crossed.ensures
@@ -94,47 +73,22 @@ next_busy c =
 
 placed_there : (c : In-loop-busy)
     → let a = c.args in
-    Placed a.sides a.grey ((let it : List ℕ = lent_samples c.args.kept.now c.args.samples.now in it)) a.masks.now (3 * a.at.s) (3 * (a.at.s + (let it : ℕ = count_trailing_zeros word_bits c.loop-busy.busy in it))) a.from c.loop-busy.n ((let it : PointRooms = point_rooms c.args.points.now c.args.edges.now c.args.marks.now in it)) ((let it : PointRooms = point_rooms c.loop-busy.points c.loop-busy.edges c.loop-busy.marks in it))
+    Placed a.sides a.grey (lent_samples c.args.kept.now c.args.samples.now) a.masks.now (3 * a.at.s) (3 * (a.at.s + (count_trailing_zeros word_bits c.loop-busy.busy))) a.from c.loop-busy.n (point_rooms c.args.points.now c.args.edges.now c.args.marks.now) (point_rooms c.loop-busy.points c.loop-busy.edges c.loop-busy.marks)
 placed_there c =
     let a = c.args in
-    samples_passed a.sides a.grey ((let it : List ℕ = lent_samples c.args.kept.now c.args.samples.now in it)) a.masks.now (3 * a.at.s) a.at.s c.loop-busy.invariant.0 ((let it : ℕ = count_trailing_zeros word_bits c.loop-busy.busy in it)) a.from c.loop-busy.n ((let it : PointRooms = point_rooms c.args.points.now c.args.edges.now c.args.marks.now in it)) ((let it : PointRooms = point_rooms c.loop-busy.points c.loop-busy.edges c.loop-busy.marks in it))
+    samples_passed a.sides a.grey (lent_samples c.args.kept.now c.args.samples.now) a.masks.now (3 * a.at.s) a.at.s c.loop-busy.invariant.0 (count_trailing_zeros word_bits c.loop-busy.busy) a.from c.loop-busy.n (point_rooms c.args.points.now c.args.edges.now c.args.marks.now) (point_rooms c.loop-busy.points c.loop-busy.edges c.loop-busy.marks)
     (next_busy c).from
     c.loop-busy.invariant.5
     (next_busy c).uncut
 
 -- its edges are crossed as the tests say
-cuts_tested : (c : After-cuts-cuts)
+cuts_tested : (c : After-cuts-cuts) → count_trailing_zeros word_bits c.loop-busy.busy < own_samples c.args.at.left
     → let a = c.args in
-    Tested a.sides a.masks.now (3 * (a.at.s + (let it : ℕ = count_trailing_zeros word_bits c.loop-busy.busy in it))) c.cuts-cuts.result
-cuts_tested c =
+    Tested a.sides a.masks.now (3 * (a.at.s + (count_trailing_zeros word_bits c.loop-busy.busy))) c.cuts-cuts.result
+cuts_tested c there =
     let a = c.args in
     rw c.cuts-cuts.ensures
-    (tested a.sides a.masks.now a.at.s (own_samples a.at.left) c.crossed_at-crossed.result c.crossed_at-crossed.ensures ((let it : ℕ = count_trailing_zeros word_bits c.loop-busy.busy in it)) ((let it : let a = c.args in
-    Found a.sides a.masks.now a.at.s (own_samples a.at.left) (busy_of c.crossed_at-crossed.result) c.loop-busy.invariant.0 c.loop-busy.busy ((let it : ℕ = count_trailing_zeros word_bits c.loop-busy.busy in it)) = let a = c.args in
-    found a.sides a.masks.now a.at.s (own_samples a.at.left) c.crossed_at-crossed.result c.crossed_at-crossed.ensures
-    c.loop-busy.invariant.0
-    c.loop-busy.busy
-    c.loop-busy.invariant.3
-    c.loop-busy.invariant.2
-    c.loop-busy-test.true in it)).there)
-
-pub overflow_cast-along : goal.overflow_cast-along
-overflow_cast-along c = omega (arith, (next_busy (goal.at.overflow_cast-along c).In-loop-busy).small)
-
-pub overflow_add-sample : goal.overflow_add-sample
-overflow_add-sample c =
-    omega (arith, (next_busy (goal.at.overflow_add-sample c).In-loop-busy).small, small_sample (goal.at.overflow_add-sample c).Start)
-
-pub overflow_add-sample-in-loop-busy : goal.overflow_add-sample-in-loop-busy
-overflow_add-sample-in-loop-busy c =
-    omega (arith, (next_busy (goal.at.overflow_add-sample-in-loop-busy c).In-loop-busy).small, small_sample (goal.at.overflow_add-sample-in-loop-busy c).Start)
-
-pub overflow_add-sample-in-loop-busy-2 : goal.overflow_add-sample-in-loop-busy-2
-overflow_add-sample-in-loop-busy-2 c =
-    omega (arith, (next_busy (goal.at.overflow_add-sample-in-loop-busy-2 c).In-loop-busy).small, c.requires.given.ready.fit.most_x)
-
-pub cuts-cuts-requires : goal.cuts-cuts-requires
-cuts-cuts-requires c = (next_busy (goal.at.cuts-cuts-requires c).In-loop-busy).small
+    (tested a.sides a.masks.now a.at.s (own_samples a.at.left) c.crossed_at-crossed.result c.crossed_at-crossed.ensures (count_trailing_zeros word_bits c.loop-busy.busy) there)
 
 pub place_sample-n-requires : goal.place_sample-n-requires
 place_sample-n-requires c =
@@ -162,15 +116,9 @@ place_sample-n-requires c =
           (placed_there (goal.at.place_sample-n-requires c).In-loop-busy).rising
           (omega (arith, (next_busy (goal.at.place_sample-n-requires c).In-loop-busy).there))
           (placed_there (goal.at.place_sample-n-requires c).In-loop-busy).counted
-          (cuts_tested (goal.at.place_sample-n-requires c).After-cuts-cuts)
+          (cuts_tested (goal.at.place_sample-n-requires c).After-cuts-cuts (next_busy (goal.at.place_sample-n-requires c).In-loop-busy).there)
           fits;
     }
-
-pub overflow_sub-busy : goal.overflow_sub-busy
-overflow_sub-busy c = omega (arith, c.loop-busy-test.true)
-
-pub loop-busy-smaller : goal.loop-busy-smaller
-loop-busy-smaller c = (next_busy (goal.at.loop-busy-smaller c).In-loop-busy).falls
 
 pub loop-busy-preserved : goal.loop-busy-preserved
 loop-busy-preserved c =
@@ -181,7 +129,7 @@ loop-busy-preserved c =
     sample_passed a.sides a.grey (samples_lent (goal.at.loop-busy-preserved c).Start) a.masks.now (a.at.s + found_at (goal.at.loop-busy-preserved c).At-loop-busy) c.loop-busy.n c.place_sample-n.result c.cuts-cuts.result
     (loop_rooms (goal.at.loop-busy-preserved c).At-loop-busy)
     (past_sample (goal.at.loop-busy-preserved c).After-place_sample-n)
-    (cuts_tested (goal.at.loop-busy-preserved c).After-cuts-cuts)
+    (cuts_tested (goal.at.loop-busy-preserved c).After-cuts-cuts (next_busy (goal.at.loop-busy-preserved c).In-loop-busy).there)
     c.place_sample-n.ensures in (
       found_at (goal.at.loop-busy-preserved c).At-loop-busy + 1,
       omega (arith, (next_busy (goal.at.loop-busy-preserved c).In-loop-busy).there),
@@ -190,15 +138,6 @@ loop-busy-preserved c =
       record { points = c.place_sample-n.auto.points ∙ same.points; edges = c.place_sample-n.auto.edges ∙ same.edges; marks = c.place_sample-n.auto.marks ∙ same.marks },
       rw past (placed_on a.sides a.grey (samples_lent (goal.at.loop-busy-preserved c).Start) a.masks.now (placed_there (goal.at.loop-busy-preserved c).In-loop-busy) here),
     )
-
-pub shape_of-points : goal.shape_of-points
-shape_of-points c = c.loop-busy.invariant.4.points
-
-pub shape_of-edges : goal.shape_of-edges
-shape_of-edges c = c.loop-busy.invariant.4.edges
-
-pub shape_of-marks : goal.shape_of-marks
-shape_of-marks c = c.loop-busy.invariant.4.marks
 
 pub returns : goal.returns
 returns c =
