@@ -12,9 +12,8 @@ ghost use Rattle.grid.specs.Limits.{most_side};
 ghost use Rattle.grid.specs.Grid.{axes, edge_count};
 ghost use Rattle.grid.specs.Mode.{cubes};
 ghost use Rattle.grid.specs.Mesh.{edge_mesh};
-ghost use Rattle.grid.specs.Work.{size, SidesFit, name_of, Nameable, NamesFit};
-ghost use Rattle.masks.specs.Masks.{row_words, mask_above, Agreeing};
-ghost use Rattle.rows.specs.Rows.{Ready, size_of, words_above};
+ghost use Rattle.grid.specs.Work.{name_of, Nameable, NamesFit};
+ghost use Rattle.rows.specs.Rows.{Whole, Ready, size_of, words_above};
 ghost use Rattle.cuberows.specs.Cubes.{FoundIn, FoundCubes};
 ghost use Rattle.triangles.specs.Names.{edge_offset, corner_name, cube_names, stretch_names, layer_names};
 ghost use Rattle.triangles.specs.Walk.{CornerFits, CubeRoom, StretchRoom, LayerRoom, Written};
@@ -34,14 +33,16 @@ pub fn edge_offsets(nx: usize, ny: usize) -> [usize; 12]
 }
 
 // What a grid edge is called: where names are lent the name at its number, else its number.
+#[tactic(auto, using(grid::proofs::Named::name_own, grid::proofs::Named::name_listed))]
 fn name(names: &[u32], edge: usize) -> u32
     requires { Nameable names.now edge }
     ensures { result ≡ name_of names.now edge }
 {
-    if names.len() == 0 {
-        return edge as u32;
+    if names.is_empty() {
+        edge as u32
+    } else {
+        names[edge]
     }
-    names[edge]
 }
 
 // What the grid edge of one corner is called; the corner's cube edge stands in the table at `place`, and `edge` is the first grid edge of the cube's first corner.
@@ -59,7 +60,7 @@ fn corner(
     name(names, edge + offsets[e])
 }
 
-// Writes one cube's triangles, a triangle a turn; `many` is how many corners they have, and `edge` the first grid edge of the cube's first corner.
+// Writes one cube's triangles; `many` is how many there are, and `edge` the first grid edge of the cube's first corner.
 fn write_cube(
     rows: &[u8; TABLE],
     offsets: &[usize; 12],
@@ -71,21 +72,19 @@ fn write_cube(
     at: usize,
 )
     requires rows { Rows rows.now }
-    requires cube_room { CubeRoom offsets.now names.now triangles.old case many edge at }
+    requires cube_room { CubeRoom offsets.now names.now triangles.old case (3 * many) edge at }
     ensures { triangles.new ≡ sets triangles.old at (cube_names offsets.now names.now edge case) }
 {
     let from = CASE_LENGTH * case;
-    let mut j = 0;
-    while j < many {
-        let place = from + j;
-        let to = at + j;
+    for k in 0..many {
+        let place = from + 3 * k;
+        let to = at + 3 * k;
         let a = corner(rows, offsets, names, place, edge);
         let b = corner(rows, offsets, names, place + 1, edge);
         let c = corner(rows, offsets, names, place + 2, edge);
         triangles[to] = a;
         triangles[to + 1] = b;
         triangles[to + 2] = c;
-        j += 3;
     }
 }
 
@@ -112,9 +111,9 @@ fn write_stretch(
         let i = u64::trailing_zeros(busy);
         let here = edge + 3 * (i as usize);
         let case = corners.case(i);
-        let many = 3 * (counts[case] as usize);
+        let many = counts[case] as usize;
         write_cube(rows, offsets, names, triangles, case, many, here, to);
-        to += many;
+        to += 3 * many;
         busy = busy & (busy - 1);
     }
     to
@@ -157,36 +156,18 @@ pub fn write_layer(
 }
 
 // Writes the triangles to the front of their room, each corner as its grid edge is called: `names` has a name for each grid edge, or none at all. `found` has words of found cubes, or none at all.
-pub fn write(
-    nx: usize,
-    ny: usize,
-    nz: usize,
-    masks: &[u64],
-    found: &[u64],
-    names: &[u32],
-    triangles: &mut [u32],
-)
-    requires sides_fit { SidesFit nx ny nz }
-    requires nz_in_bounds { row_words nx * (ny * nz) ≤ length masks.now }
-    requires agreeing { Agreeing nx (ny * nz) masks.now }
-    requires found_cubes { FoundCubes (size nx ny nz) (mask_above nx masks.now) found.now }
-    requires names_fit { NamesFit (edge_count axes (size nx ny nz)) names.now }
-    requires masks_in_bounds { 3 * length (edge_mesh cubes (size nx ny nz) (mask_above nx masks.now)) ≤ length triangles.old }
-    ensures { let corners = flat (edge_mesh cubes (size nx ny nz) (mask_above nx masks.now)) in
+pub fn write(sides: Sides, masks: &[u64], found: &[u64], names: &[u32], triangles: &mut [u32])
+    requires whole { Whole sides masks.now }
+    requires found_cubes { FoundCubes (size_of sides) (words_above sides masks.now) found.now }
+    requires names_fit { NamesFit (edge_count axes (size_of sides)) names.now }
+    requires masks_in_bounds { 3 * length (edge_mesh cubes (size_of sides) (words_above sides masks.now)) ≤ length triangles.old }
+    ensures { let corners = flat (edge_mesh cubes (size_of sides) (words_above sides masks.now)) in
         triangles.new ≡ laid (map (name_of names.now) corners) triangles.old }
 {
     let table = cube::rows();
     let counts = cube::counts();
-    let offsets = edge_offsets(nx, ny);
-    let sides = Sides {
-        nx,
-        ny,
-        nz,
-        words: masks::row_words(nx),
-        last: masks::last_mask(nx),
-        below: 0,
-    };
-    let last = nz - 1;
+    let offsets = edge_offsets(sides.nx, sides.ny);
+    let last = sides.nz - 1;
     let mut to = 0;
     for z in 0..last {
         to = write_layer(

@@ -2,20 +2,16 @@
 use mathlib.Core.Path.{◌≡◌, ap, ap₂, subst, subst⁻¹, ◌∙◌}
 use Prim.Native.Nat.{◌-◌}
 use native.Mathlib.Omega.{arith}
-use Rattle.grid.proofs.Sides.{samples_most}
 use Rattle.rows.specs.Rows.{Stands, first_x, cubes_mask, first_stretch}
-use Rattle.rows.proofs.Stretches.{stands_first, sample_there, word_there, stretch_addable}
+use Rattle.rows.proofs.Stretches.{stands_first, word_there}
 use Rattle.cuberows.specs.Cubes.{corners_at, BusyCubes}
 use Rattle.cuberows.proofs.Layers.{Within, corners_there}
 use Rattle.cuberows.proofs.Found.{row_found}
 use Rattle.triangles.specs.Walk.{Written}
-use Rattle.triangles.proofs.Names.{written_none, written_length}
+use Rattle.triangles.proofs.Names.{written_none}
 use Rattle.triangles.proofs.Layers.{named_to, named_none, named_all, stretch_room, stretch_next}
 use Rattle.triangles.proofs.write_layer.Goals as goal
 use Rattle.triangles.proofs.write_layer.Goals.{After-busy_cubes-busy}
-
-pub first-at-requires : goal.first-at-requires
-first-at-requires c = record { sides_fit = c.requires.ready.fit; words_value = c.requires.ready.words; below_le_z = (c.requires.ready.from, omega (arith, c.requires.z_bound)) }
 
 pub loop-at-init : goal.loop-at-init
 loop-at-init c =
@@ -31,9 +27,6 @@ loop-at-init c =
       rw (none, named_none a.offsets.now a.names.now a.sides a.masks.now a.z) (written_none a.triangles.now a.from),
     )
 
-pub overflow_add-at : goal.overflow_add-at
-overflow_add-at c = omega (arith, c.loop-at.invariant.1.0, c.requires.ready.fit.most_y)
-
 -- from a turn back to the function's entry
 
 pub corners_at-corners-requires : goal.corners_at-corners-requires
@@ -47,17 +40,6 @@ busy_cubes-busy-requires c =
     let l = c.loop-at in
     rw (c.corners_at-corners.ensures, c.cubes_mask-cubes.ensures)
     (row_found a.sides a.masks.now a.z c.requires.ready l.at l.invariant.0 c.loop-at-test.true c.requires.z_bound a.found.now c.requires.found_in)
-
-pub overflow_mul-edge : goal.overflow_mul-edge
-overflow_mul-edge c =
-    let a = c.args.sides in
-    let l = c.loop-at in
-    let fit = c.requires.ready.fit in
-    omega (
-      arith,
-      sample_there a c.args.z l.at l.invariant.0 l.invariant.1.0 (omega (arith, c.requires.z_bound)) 0 (omega (arith, l.invariant.0.some)),
-      samples_most a.nx a.ny a.nz fit,
-    )
 
 -- the busy cubes of the grid's words
 busy_is : (c : After-busy_cubes-busy)
@@ -81,11 +63,6 @@ write_stretch-to-requires c =
           c.requires.layer_room;
     }
 
-pub next-at-requires : goal.next-at-requires
-next-at-requires c =
-    let l = c.loop-at in
-    stretch_addable c.args.sides c.args.z l.at l.invariant.0 l.invariant.1.0 (omega (arith, c.requires.z_bound)) c.requires.ready.fit
-
 pub loop-at-smaller : goal.loop-at-smaller
 loop-at-smaller c =
     let l = c.loop-at in
@@ -104,9 +81,6 @@ loop-at-preserved c =
     c.next-at.result
     c.next-at.ensures
     c.write_stretch-to.ensures
-
-pub shape_of-triangles : goal.shape_of-triangles
-shape_of-triangles c = written_length c.loop-at.invariant.2
 
 pub returns : goal.returns
 returns c =

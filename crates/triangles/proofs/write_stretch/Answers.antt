@@ -43,97 +43,65 @@ place_small c = omega (arith, (c.requires.stretch_room.named (cube_here c) 0 (ne
 -- the cubes before it are written
 written_here : (c : In-loop-busy)
     → let l = c.loop-busy in
-    Written c.args.triangles.now l.triangles c.args.at (join_to (cube_here c) ((let it : ℕ → List ℕ = busy_names c.args.offsets.now c.args.names.now c.args.corners c.args.cubes c.args.edge in it))) l.to
+    Written c.args.triangles.now l.triangles c.args.at (join_to (cube_here c) (busy_names c.args.offsets.now c.args.names.now c.args.corners c.args.cubes c.args.edge)) l.to
 written_here c =
     let l = c.loop-busy in
     let a = c.args in
     let f = next_here c in
-    rw (join_quiet l.invariant.0 (cube_here c) ((let it : ℕ → List ℕ = busy_names c.args.offsets.now c.args.names.now c.args.corners c.args.cubes c.args.edge in it)) f.from
+    rw (join_quiet l.invariant.0 (cube_here c) (busy_names c.args.offsets.now c.args.names.now c.args.corners c.args.cubes c.args.edge) f.from
     (λ i h k. ap (λ b. cond b (cube_names a.offsets.now a.names.now (a.edge + 3 * i) (word_case a.corners i)) []) (f.quiet i h k)))
     l.invariant.4
-
-pub overflow_cast-here : goal.overflow_cast-here
-overflow_cast-here c = omega (arith, (next_here (goal.at.overflow_cast-here c).In-loop-busy).small)
-
-pub overflow_mul-here : goal.overflow_mul-here
-overflow_mul-here c = omega (arith, (next_here (goal.at.overflow_mul-here c).In-loop-busy).small)
 
 pub overflow_add-here : goal.overflow_add-here
 overflow_add-here c = omega (arith, place_small (goal.at.overflow_add-here c).In-loop-busy)
 
-pub case-case-requires : goal.case-case-requires
-case-case-requires c = (next_here (goal.at.case-case-requires c).In-loop-busy).small
-
 -- the case that was read, its count, and what is written for it
-read : (c : After-case-case) → CaseRead c.args.counts.now c.args.corners ((let it : ℕ = count_trailing_zeros word_bits c.loop-busy.busy in it)) c.case-case.result
-read c = case_read c.args.counts.now c.args.corners ((let it : ℕ = count_trailing_zeros word_bits c.loop-busy.busy in it)) _ c.requires.counts c.case-case.ensures
+read : (c : After-case-case) → CaseRead c.args.counts.now c.args.corners (count_trailing_zeros word_bits c.loop-busy.busy) c.case-case.result
+read c = case_read c.args.counts.now c.args.corners (count_trailing_zeros word_bits c.loop-busy.busy) _ c.requires.counts c.case-case.ensures
 
 abbrev many : After-case-case → ℕ
 many c = 3 * get_or c.args.counts.now c.case-case.result 0
 
-cube_written : (c : After-case-case)
+cube_written : (c : After-case-case) → NextBit word_bits c.args.cubes c.loop-busy.invariant.0 c.loop-busy.busy (count_trailing_zeros word_bits c.loop-busy.busy)
     → let a = c.args in
-    cube_names a.offsets.now a.names.now (a.edge + 3 * (let it : ℕ = count_trailing_zeros word_bits c.loop-busy.busy in it)) c.case-case.result ≡ (let it : ℕ → List ℕ = busy_names c.args.offsets.now c.args.names.now c.args.corners c.args.cubes c.args.edge in it) ((let it : ℕ = count_trailing_zeros word_bits c.loop-busy.busy in it))
-cube_written c =
+    cube_names a.offsets.now a.names.now (a.edge + 3 * (count_trailing_zeros word_bits c.loop-busy.busy)) c.case-case.result ≡ (busy_names c.args.offsets.now c.args.names.now c.args.corners c.args.cubes c.args.edge) (count_trailing_zeros word_bits c.loop-busy.busy)
+cube_written c f =
     let a = c.args in
-    let t = (let it : ℕ = count_trailing_zeros word_bits c.loop-busy.busy in it) in
+    let t = (count_trailing_zeros word_bits c.loop-busy.busy) in
     ap (cube_names a.offsets.now a.names.now (a.edge + 3 * t)) (read c).is
-    ∙ sym (ap (λ b. cond b (cube_names a.offsets.now a.names.now (a.edge + 3 * t) (word_case a.corners t)) []) ((let it : NextBit word_bits c.args.cubes c.loop-busy.invariant.0 c.loop-busy.busy ((let it : ℕ = count_trailing_zeros word_bits c.loop-busy.busy in it)) = let l = c.loop-busy in
-    next_bit word_bits c.args.cubes l.invariant.0 l.busy l.invariant.2 l.invariant.3 c.loop-busy-test.true in it)).set)
+    ∙ sym (ap (λ b. cond b (cube_names a.offsets.now a.names.now (a.edge + 3 * t) (word_case a.corners t)) []) f.set)
 
-many_is : (c : After-case-case) → many c ≡ length ((let it : ℕ → List ℕ = busy_names c.args.offsets.now c.args.names.now c.args.corners c.args.cubes c.args.edge in it) ((let it : ℕ = count_trailing_zeros word_bits c.loop-busy.busy in it)))
-many_is c =
+many_is : (c : After-case-case) → NextBit word_bits c.args.cubes c.loop-busy.invariant.0 c.loop-busy.busy (count_trailing_zeros word_bits c.loop-busy.busy)
+    → many c ≡ length ((busy_names c.args.offsets.now c.args.names.now c.args.corners c.args.cubes c.args.edge) (count_trailing_zeros word_bits c.loop-busy.busy))
+many_is c f =
     let a = c.args in
-    omega (arith, (read c).counted, length_cube a.offsets.now a.names.now (a.edge + 3 * (let it : ℕ = count_trailing_zeros word_bits c.loop-busy.busy in it)) c.case-case.result, ap length (cube_written c))
+    omega (arith, (read c).counted, length_cube a.offsets.now a.names.now (a.edge + 3 * (count_trailing_zeros word_bits c.loop-busy.busy)) c.case-case.result, ap length (cube_written c f))
 
-pub bounds-counts-case : goal.bounds-counts-case
-bounds-counts-case c = (read (goal.at.bounds-counts-case c).After-case-case).small
-
-pub overflow_cast-many : goal.overflow_cast-many
-overflow_cast-many c = omega (arith, (read (goal.at.overflow_cast-many c).After-case-case).few)
-
-pub overflow_mul-many : goal.overflow_mul-many
-overflow_mul-many c = omega (arith, (read (goal.at.overflow_mul-many c).After-case-case).few)
-
-room_here : (c : After-case-case)
+room_here : (c : After-case-case) → NextBit word_bits c.args.cubes c.loop-busy.invariant.0 c.loop-busy.busy (count_trailing_zeros word_bits c.loop-busy.busy)
+    → (let l = c.loop-busy in Written c.args.triangles.now l.triangles c.args.at (join_to (count_trailing_zeros word_bits c.loop-busy.busy) (busy_names c.args.offsets.now c.args.names.now c.args.corners c.args.cubes c.args.edge)) l.to)
     → let a = c.args in
     let l = c.loop-busy in
-    CubeRoom a.offsets.now a.names.now l.triangles c.case-case.result (many c) (a.edge + 3 * (let it : ℕ = count_trailing_zeros word_bits c.loop-busy.busy in it)) l.to
-room_here c =
-    let f = (let it : NextBit word_bits c.args.cubes c.loop-busy.invariant.0 c.loop-busy.busy ((let it : ℕ = count_trailing_zeros word_bits c.loop-busy.busy in it)) = let l = c.loop-busy in
-    next_bit word_bits c.args.cubes l.invariant.0 l.busy l.invariant.2 l.invariant.3 c.loop-busy-test.true in it) in
+    CubeRoom a.offsets.now a.names.now l.triangles c.case-case.result (many c) (a.edge + 3 * (count_trailing_zeros word_bits c.loop-busy.busy)) l.to
+room_here c f so =
     record {
       small = (read c).small;
       corners = ap (λ n. 3 * n) (read c).counted;
-      named = λ e h. c.requires.stretch_room.named ((let it : ℕ = count_trailing_zeros word_bits c.loop-busy.busy in it)) e f.set h;
+      named = λ e h. c.requires.stretch_room.named (count_trailing_zeros word_bits c.loop-busy.busy) e f.set h;
       holds = omega (
         arith,
-        many_is c,
-        written_room (join_to ((let it : ℕ = count_trailing_zeros word_bits c.loop-busy.busy in it)) ((let it : ℕ → List ℕ = busy_names c.args.offsets.now c.args.names.now c.args.corners c.args.cubes c.args.edge in it))) _ _ ((let it : let l = c.loop-busy in
-            Written c.args.triangles.now l.triangles c.args.at (join_to ((let it : ℕ = count_trailing_zeros word_bits c.loop-busy.busy in it)) ((let it : ℕ → List ℕ = busy_names c.args.offsets.now c.args.names.now c.args.corners c.args.cubes c.args.edge in it))) l.to = let l = c.loop-busy in
-            let a = c.args in
-            let f = (let it : NextBit word_bits c.args.cubes c.loop-busy.invariant.0 c.loop-busy.busy ((let it : ℕ = count_trailing_zeros word_bits c.loop-busy.busy in it)) = let l = c.loop-busy in
-            next_bit word_bits c.args.cubes l.invariant.0 l.busy l.invariant.2 l.invariant.3 c.loop-busy-test.true in it) in
-            rw (join_quiet l.invariant.0 ((let it : ℕ = count_trailing_zeros word_bits c.loop-busy.busy in it)) ((let it : ℕ → List ℕ = busy_names c.args.offsets.now c.args.names.now c.args.corners c.args.cubes c.args.edge in it)) f.from
-            (λ i h k. ap (λ b. cond b (cube_names a.offsets.now a.names.now (a.edge + 3 * i) (word_case a.corners i)) []) (f.quiet i h k)))
-            l.invariant.4 in it)) (join_room ((let it : ℕ = count_trailing_zeros word_bits c.loop-busy.busy in it)) word_bits ((let it : ℕ → List ℕ = busy_names c.args.offsets.now c.args.names.now c.args.corners c.args.cubes c.args.edge in it)) f.small) c.requires.stretch_room.holds,
+        many_is c f,
+        written_room (join_to (count_trailing_zeros word_bits c.loop-busy.busy) (busy_names c.args.offsets.now c.args.names.now c.args.corners c.args.cubes c.args.edge)) _ _ so (join_room (count_trailing_zeros word_bits c.loop-busy.busy) word_bits (busy_names c.args.offsets.now c.args.names.now c.args.corners c.args.cubes c.args.edge) f.small) c.requires.stretch_room.holds,
       );
     }
 
 pub write_cube-requires : goal.write_cube-requires
-write_cube-requires c = record { rows = c.requires.rows; cube_room = room_here (goal.at.write_cube-requires c).After-case-case }
+write_cube-requires c = record { rows = c.requires.rows; cube_room = room_here (goal.at.write_cube-requires c).After-case-case (next_here (goal.at.write_cube-requires c).In-loop-busy) (written_here (goal.at.write_cube-requires c).In-loop-busy) }
 
 -- from a turn's end back to the case that was read
 
 pub overflow_add-to : goal.overflow_add-to
 overflow_add-to c =
-    omega (arith, (room_here (goal.at.overflow_add-to c).After-case-case).holds, written_length c.loop-busy.invariant.4, (goal.at.overflow_add-to c).After-shared_slice_known-1)
-
-pub overflow_sub-busy : goal.overflow_sub-busy
-overflow_sub-busy c = omega (arith, c.loop-busy-test.true)
-
-pub loop-busy-smaller : goal.loop-busy-smaller
-loop-busy-smaller c = (next_here (goal.at.loop-busy-smaller c).In-loop-busy).falls
+    omega (arith, (room_here (goal.at.overflow_add-to c).After-case-case (next_here (goal.at.overflow_add-to c).In-loop-busy) (written_here (goal.at.overflow_add-to c).In-loop-busy)).holds, written_length c.loop-busy.invariant.4, (goal.at.overflow_add-to c).After-shared_slice_known-1)
 
 pub loop-busy-preserved : goal.loop-busy-preserved
 loop-busy-preserved c =
@@ -146,11 +114,8 @@ loop-busy-preserved c =
       omega (arith, f.falls, l.invariant.3),
       rw (join_next t (cube_of (goal.at.loop-busy-preserved c).Start))
           (written_on (join_to t (cube_of (goal.at.loop-busy-preserved c).Start)) (cube_of (goal.at.loop-busy-preserved c).Start t) (written_here (goal.at.loop-busy-preserved c).In-loop-busy)
-          (written_one c.write_cube.ensures (cube_written (goal.at.loop-busy-preserved c).After-case-case) (many_is (goal.at.loop-busy-preserved c).After-case-case))),
+          (written_one c.write_cube.ensures (cube_written (goal.at.loop-busy-preserved c).After-case-case f) (many_is (goal.at.loop-busy-preserved c).After-case-case f))),
     )
-
-pub shape_of-triangles : goal.shape_of-triangles
-shape_of-triangles c = written_length c.loop-busy.invariant.4
 
 pub returns : goal.returns
 returns c =
