@@ -2,20 +2,21 @@
 
 #![tactic(auto)]
 
-ghost use Rattle.std.specs.Prelude.{◌≡◌, min, ltb, length, replicate};
+ghost use Rattle.std.specs.Prelude.{◌≡◌, Err, min, ltb, length, replicate};
 ghost use Rattle.grid.specs.Grid.{axes, sample_count, edge_count, is_above_grey};
 ghost use Rattle.grid.specs.Mode.{cubes};
 ghost use Rattle.grid.specs.Work.{size, SidesFit};
 ghost use Rattle.cuberows.specs.Cubes.{FoundCubes};
-ghost use Rattle.extract.specs.Promise.{rooms, left, Extracts, Measures};
+ghost use Rattle.extract.specs.Promise.{rooms, answered, Extracts, Measures};
 
 use grid::limits::{MOST_POINTS, MOST_TRIANGLES};
+use grid::refusal::Refusal;
 use masks::MOST_WORDS;
+use rows::Sides;
 
-// Number 0 and the two counts if granted, else the refusal's number and zero counts.
+// How many points and triangles a mesh has.
 #[derive(Clone, Copy)]
 pub struct Extracted {
-    pub number: u32,
     pub points: u32,
     pub triangles: u32,
 }
@@ -24,29 +25,16 @@ pub struct Extracted {
 fn exceeds(count: u32, most: u32, room: usize) -> bool
     ensures { result ≡ ltb (min most room) count }
 {
-    if most < count {
-        return true;
-    }
-    room < count as usize
-}
-
-fn refused(number: u32) -> Extracted
-    ensures { (result.number ≡ number) × (result.points ≡ 0) × (result.triangles ≡ 0) }
-{
-    Extracted {
-        number,
-        points: 0,
-        triangles: 0,
-    }
+    most < count || room < count as usize
 }
 
 // A refusal after the lengths leaves the work room zero.
-fn refused_later(number: u32, work: &mut [u32]) -> Extracted
-    ensures answer { (result.number ≡ number) × (result.points ≡ 0) × (result.triangles ≡ 0) }
+fn refused_later(refusal: Refusal, work: &mut [u32]) -> Result<Extracted, Refusal>
+    ensures answer { result ≡ Err refusal }
     ensures zero { work.new ≡ replicate (length work.old) 0 }
 {
     rooms::clear(work);
-    refused(number)
+    Err(refusal)
 }
 
 // Points and triangles are counted before anything is written, so that a refusal leaves the rooms. A query lends the words of the cubes that its steps found, the extractor none; the outcome is the same.
@@ -62,35 +50,35 @@ pub fn measured(
     marks: &mut [u8],
     triangles: &mut [u32],
     work: &mut [u32],
-) -> Extracted
+) -> Result<Extracted, Refusal>
     requires sides_fit { SidesFit nx ny nz }
     requires samples_len { length samples.now ≡ sample_count (size nx ny nz) }
     requires work_len { length work.old ≡ edge_count axes (size nx ny nz) }
     requires found_cubes { FoundCubes (size nx ny nz) (is_above_grey grey samples.now) found.now }
     ensures { let before = rooms points.old edges.old marks.old triangles.old work.old in
         let after = rooms points.new edges.new marks.new triangles.new work.new in
-        Measures cubes nx ny nz grey samples.now before (left result.number result.points result.triangles after) }
+        Measures cubes nx ny nz grey samples.now before (answered result after) }
 {
+    let sides = Sides::new(nx, ny, nz, 0);
     let mut masks = [0u64; MOST_WORDS];
     let none_kept = [0u32; 0];
     masks::fill(&none_kept, samples, nx, ny * nz, grey, &mut masks);
-    let numbered = pointnumbers::number(nx, ny, nz, &masks, work);
-    let room = rooms::least(points.len() / 3, rooms::least(edges.len(), marks.len()));
+    let numbered = pointnumbers::number(sides, &masks, work);
+    let room = (points.len() / 3).min(edges.len().min(marks.len()));
     if exceeds(numbered, MOST_POINTS, room) {
-        return refused_later(4, work);
+        return refused_later(Refusal::Points, work);
     }
-    let made = cuberows::count(nx, ny, nz, &masks, found);
+    let made = cuberows::count(sides, &masks, found);
     if exceeds(made, MOST_TRIANGLES, triangles.len() / 3) {
-        return refused_later(5, work);
+        return refused_later(Refusal::Triangles, work);
     }
-    pointplaces::place(nx, ny, nz, grey, samples, &masks, points, edges, marks);
-    triangles::write(nx, ny, nz, &masks, found, work, triangles);
+    pointplaces::place(sides, grey, samples, &masks, points, edges, marks);
+    triangles::write(sides, &masks, found, work, triangles);
     rooms::clear(work);
-    Extracted {
-        number: 0,
+    Ok(Extracted {
         points: numbered,
         triangles: made,
-    }
+    })
 }
 
 // The mesh of a grid at one grey value, into lent rooms.
@@ -105,23 +93,23 @@ pub fn extract(
     marks: &mut [u8],
     triangles: &mut [u32],
     work: &mut [u32],
-) -> Extracted
+) -> Result<Extracted, Refusal>
     ensures { let before = rooms points.old edges.old marks.old triangles.old work.old in
         let after = rooms points.new edges.new marks.new triangles.new work.new in
-        Extracts cubes nx ny nz grey samples.now before (left result.number result.points result.triangles after) }
+        Extracts cubes nx ny nz grey samples.now before (answered result after) }
 {
     if !grid::sides_fit(nx, ny, nz) {
-        return refused(1);
+        return Err(Refusal::Side);
     }
     let x = nx as usize;
     let y = ny as usize;
     let z = nz as usize;
     let count = x * (y * z);
     if samples.len() != count {
-        return refused(2);
+        return Err(Refusal::Samples);
     }
     if work.len() != 3 * count {
-        return refused(3);
+        return Err(Refusal::Room);
     }
     let none_found = [0u64; 0];
     measured(

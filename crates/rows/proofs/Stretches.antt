@@ -64,12 +64,18 @@ module _ (x y z : ℕ) (sides : Sides) (is : SidesOf x y z 0 sides) (masks : Lis
     agree = rw (is.nx, is.ny, is.nz) agree;
   }
 
-  -- what holds of the sides and their words holds of the numbers that they were made of
+  sizes : size_of sides ≡ size x y z
+  sizes = rw (is.nx, is.ny, is.nz)
+
+  words : words_above sides masks ≡ mask_above x masks
+  words = above_whole sides masks is.below ∙ ap (λ nx. mask_above nx masks) is.nx
+
+  -- what holds of the sides and their words holds of the numbers that they were made of, and the other way round
   pub of_whole : (P : Size → (ℕ → Bool) → Type 0) → P (size_of sides) (words_above sides masks) → P (size x y z) (mask_above x masks)
-  of_whole P holds =
-      let same : words_above sides masks ≡ mask_above x masks = above_whole sides masks is.below ∙ ap (λ nx. mask_above nx masks) is.nx in
-      let sizes : size_of sides ≡ size x y z = rw (is.nx, is.ny, is.nz) in
-      rw (← sizes, ← same) holds
+  of_whole P holds = rw (← sizes, ← words) holds
+
+  pub for_whole : (P : Size → (ℕ → Bool) → Type 0) → P (size x y z) (mask_above x masks) → P (size_of sides) (words_above sides masks)
+  for_whole P holds = rw (sizes, words) holds
 
 -- the first layer begins at the first sample, and the first stretch where its layer does
 pub layer_first_lem : (sides : Sides) → layer_first sides 0 ≡ 0

@@ -3,11 +3,8 @@ use mathlib.Core.Path.{◌≡◌, sym, ◌∙◌}
 use mathlib.Core.Bool.{true}
 use native.Mathlib.Omega.{arith}
 use Rattle.grid.specs.Sides.{sides_fit}
-use Rattle.grid.specs.Grid.{is_above_grey}
 use Rattle.grid.specs.Mode.{cubes}
-use Rattle.grid.specs.Work.{size}
-use Rattle.grid.proofs.Sides.{sides_within, rows_most, samples_most}
-use Rattle.cuberows.proofs.Found.{none_owed}
+use Rattle.grid.proofs.Sides.{sides_within, samples_most}
 use Rattle.extract.specs.Extraction.{Rooms}
 use Rattle.extract.specs.Promise.{rooms}
 use Rattle.extract.proofs.Refusals.{refused_sides, refused_samples, refused_work, past_lengths}
@@ -28,13 +25,7 @@ fit c = sym c.sides_fit.ensures ∙ c.if-not-sides_fit.false
 pub returns-then-not-sides_fit : goal.returns-then-not-sides_fit
 returns-then-not-sides_fit c =
     let a = c.args in
-    rw (c.refused.ensures.0, c.refused.ensures.1, c.refused.ensures.2)
-    (refused_sides cubes a.nx a.ny a.nz a.grey a.samples.now (lent (goal.at.returns-then-not-sides_fit c).Start) (sym c.sides_fit.ensures ∙ c.if-not-sides_fit.true))
-
-pub overflow_mul-count : goal.overflow_mul-count
-overflow_mul-count c =
-    let a = c.args in
-    omega (arith, rows_most a.nx a.ny a.nz (sides_within a.nx a.ny a.nz (fit (goal.at.overflow_mul-count c).Else-not-sides_fit)))
+    refused_sides cubes a.nx a.ny a.nz a.grey a.samples.now (lent (goal.at.returns-then-not-sides_fit c).Start) (sym c.sides_fit.ensures ∙ c.if-not-sides_fit.true)
 
 pub overflow_mul-count-2 : goal.overflow_mul-count-2
 overflow_mul-count-2 c =
@@ -44,20 +35,15 @@ overflow_mul-count-2 c =
 pub returns-then-samples-count : goal.returns-then-samples-count
 returns-then-samples-count c =
     let a = c.args in
-    rw (c.refused-then-samples-count.ensures.0, c.refused-then-samples-count.ensures.1, c.refused-then-samples-count.ensures.2)
     (refused_samples cubes a.nx a.ny a.nz a.grey a.samples.now (lent (goal.at.returns-then-samples-count c).Start) (fit (goal.at.returns-then-samples-count c).Else-not-sides_fit) c.if-samples-count.true)
 
 pub returns-then-work-count : goal.returns-then-work-count
 returns-then-work-count c =
     let a = c.args in
-    rw (c.refused-then-work-count.ensures.0, c.refused-then-work-count.ensures.1, c.refused-then-work-count.ensures.2)
     (refused_work cubes a.nx a.ny a.nz a.grey a.samples.now (lent (goal.at.returns-then-work-count c).Start) (fit (goal.at.returns-then-work-count c).Else-not-sides_fit) c.if-samples-count.false c.if-work-count.true)
 
-pub measured-requires : goal.measured-requires
-measured-requires c =
-    let a = c.args in
-    let n = size a.nx a.ny a.nz in
-    let above = is_above_grey a.grey a.samples.now in record { sides_fit = sides_within a.nx a.ny a.nz (fit (goal.at.measured-requires c).Else-not-sides_fit); samples_len = c.if-samples-count.false; work_len = c.if-work-count.false; found_cubes = λ z hz. none_owed n above z }
+pub measured-requires-clause-sides_fit : goal.measured-requires-clause-sides_fit
+measured-requires-clause-sides_fit c = let a = c.args in sides_within a.nx a.ny a.nz (fit (goal.at.measured-requires-clause-sides_fit c).Else-not-sides_fit)
 
 pub returns : goal.returns
 returns c =
