@@ -1,6 +1,6 @@
 // Document 01, "Numbers that refuse", and those that document 02 adds.
 ghost use Rattle.std.specs.Prelude.{◌≡◌};
-ghost use Rattle.grid.specs.Refusal.{number_of};
+ghost use Rattle.grid.specs.Refusal.{number_of, told};
 
 // Why a call is refused. A malformed line of a text is named.
 #[derive(Clone, Copy, Debug, PartialEq, Eq)]
@@ -52,5 +52,15 @@ impl Refusal {
             Refusal::Closing => 18,
             Refusal::Summary => 19,
         }
+    }
+}
+
+// What C is told of an answer: 0 if granted, else the refusal's number.
+pub fn told<T: Copy>(answer: Result<T, Refusal>) -> u32
+    ensures { result ≡ told answer }
+{
+    match answer {
+        Ok(_) => 0,
+        Err(refusal) => refusal.number(),
     }
 }
