@@ -1,57 +1,48 @@
--- The shell numbers in their part of the room, from the sets that stood there.
-use mathlib.Core.Path.{◌≡◌, ap, sym, ◌∙◌, subst}
+-- The shell numbers in their part of the room, from the sets that stood there: the room is cut before them, with the triangles in front.
+use mathlib.Core.Path.{◌≡◌, ap, ◌∙◌}
 use mathlib.Core.List.{List, ◌++◌}
-use Prim.Native.Nat.{ℕ, ◌+◌, ◌*◌, ◌≤◌}
+use Prim.Native.Nat.{ℕ, ◌+◌, ◌*◌, ◌-◌, ◌≤◌}
 use native.Mathlib.Omega.{arith}
 use lib.ListN.{length, take, drop}
-use lib.Seq.{sets, length-sets}
+use Rattle.std.proofs.lemmas.List.{take_rest, drop-take}
 use Rattle.laws.specs.Range.{count_to}
 use Rattle.laws.specs.Values.{list_to}
 use Rattle.laws.proofs.Values.{length_list}
 use Rattle.laws.specs.Part.{part_of}
-use Rattle.laws.proofs.Parts.{length_part, put_back, part_written, sets_again}
+use Rattle.laws.proofs.Parts.{length_part, put_back}
 use Rattle.mesh.specs.Mesh.{triangles_of}
-use Rattle.sets.specs.Sets.{Falling, is_root, rank_of}
-use Rattle.roomsets.specs.Parts.{UnitedWithin}
+use Rattle.sets.specs.Sets.{is_root, rank_of, United}
 use Rattle.shellnumbers.specs.Numbering.{Numbering}
 use Rattle.shellnumbers.proofs.Numbered.{numbered}
 use Rattle.columns.specs.Room.{triangles_at, numbers_at}
 use Rattle.roommesh.specs.Numbered.{Numberable, ShellsNumbered}
 
-module _ (v t : ℕ) (old : List ℕ) (fit : Numberable v t old) (room : List ℕ) (u : UnitedWithin (triangles_at v) t (numbers_at v t) v old room) where
+module _ (v t : ℕ) (old : List ℕ) (fit : Numberable v t old) where
   abbrev base : ℕ
   base = numbers_at v t
+
+  abbrev front : List ℕ
+  front = take base old
+
+  abbrev triangles : List ℕ
+  triangles = part_of (triangles_at v) (3 * t) old
 
   inside : base + v ≤ length old
   inside = omega (arith, fit.whole)
 
-  sets_long : length u.sets_after ≡ v
-  sets_long = u.united.long ∙ length_part old base v inside
-
-  room_long : length room ≡ length old
-  room_long = ap length u.stays ∙ length-sets old base u.sets_after
-
-  pub there : part_of base v room ≡ u.sets_after
-  there = ap (part_of base v) u.stays ∙ ap (λ n. part_of base n (sets old base u.sets_after)) (sym sets_long) ∙ part_written old base u.sets_after (omega (arith, sets_long, inside))
-
-  pub part_falls : Falling (part_of base v room)
-  part_falls = subst Falling (sym there) u.united.falls
-
-  pub part_long : length (part_of base v room) ≡ v
-  part_long = length_part room base v (omega (arith, room_long, inside))
+  -- the rest of the front, from the triangles on
+  triangles_there : take (length front - triangles_at v) (drop (triangles_at v) front) ≡ triangles
+  triangles_there = take_rest front (triangles_at v) ∙ drop-take (triangles_at v) (3 * t) old
 
   -- ranks in the place of the sets
-  pub shells_numbered : (ranks : List ℕ) (shells : ℕ) → ranks ≡ list_to (length (part_of base v room)) (rank_of (part_of base v room)) → shells ≡ count_to v (is_root (part_of base v room))
-      → ShellsNumbered v t old shells (take base room ++ (ranks ++ drop v (drop base room)))
-  shells_numbered ranks shells e c =
-      let same : ranks ≡ list_to v (rank_of u.sets_after) = e ∙ ap (λ n. list_to n (rank_of (part_of base v room))) part_long ∙ ap (λ r. list_to v (rank_of r)) there in
-      let long : length ranks ≡ v = ap length same ∙ length_list v (rank_of u.sets_after) in
-      let many : count_to v (is_root u.sets_after) ≡ shells = sym (c ∙ ap (λ r. count_to v (is_root r)) there) in
-      let N = numbered (part_of (triangles_at v) (3 * t) old) (part_of base v old) u.sets_after u.united v (omega (arith, sets_long)) in
+  pub shells_numbered : (sets ranks : List ℕ) (shells : ℕ) → United (take (length front - triangles_at v) (drop (triangles_at v) front)) (part_of base v old) sets
+      → ranks ≡ list_to (length sets) (rank_of sets) → shells ≡ count_to v (is_root sets) → ShellsNumbered v t old shells (front ++ (ranks ++ drop v (drop base old)))
+  shells_numbered sets ranks shells u e k =
+      let long : length sets ≡ v = u.long ∙ length_part old base v inside in
+      let many : Numbering (triangles_of triangles) v (list_to v (rank_of sets)) (count_to v (is_root sets)) =
+      numbered triangles (part_of base v old) sets (rw triangles_there at u) v (omega (arith, long)) in
       record {
         numbers = ranks;
-        numbered = subst (λ r. Numbering (triangles_of (part_of (triangles_at v) (3 * t) old)) v r shells) (sym same) (subst (Numbering (triangles_of (part_of (triangles_at v) (3 * t) old)) v (list_to v (rank_of u.sets_after))) many N);
-        stays =
-            put_back room ranks base v long (omega (arith, room_long, inside)) ∙ ap (λ r. sets r base ranks) u.stays
-            ∙ sets_again old base u.sets_after (omega (arith, sets_long, inside)) ranks (long ∙ sym sets_long);
+        numbered = rw (e, long, k) many;
+        stays = put_back old ranks base v (ap length e ∙ length_list (length sets) (rank_of sets) ∙ long) inside;
       }
