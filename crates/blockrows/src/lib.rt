@@ -17,18 +17,6 @@ pub const ROW: usize = MOST_SIDE as usize;
 // Numbers under the longest row of other blocks, two for each of its halves; the samples of a row are fewer.
 pub const COLUMNS: usize = 2 * ROW;
 
-fn lesser(a: u16, b: u16) -> u16
-    ensures { result ≡ min a b }
-{
-    if a < b { a } else { b }
-}
-
-fn greater(a: u16, b: u16) -> u16
-    ensures { result ≡ max a b }
-{
-    if a < b { b } else { a }
-}
-
 // The least and the greatest of the numbers at the same place of four rows of a list: the first, the one so far back along y, the one so far up along z, and the one back from that.
 pub fn columns(
     list: &[u16],
@@ -49,15 +37,13 @@ pub fn columns(
     let behind = first + back;
     let over = first + up;
     let both = over + back;
-    let mut i = 0;
-    while i < many {
+    for i in 0..many {
         let a = list[first + i];
         let b = list[behind + i];
         let c = list[over + i];
         let d = list[both + i];
-        low[i] = lesser(lesser(a, b), lesser(c, d));
-        high[i] = greater(greater(a, b), greater(c, d));
-        i += 1;
+        low[i] = a.min(b).min(c.min(d));
+        high[i] = a.max(b).max(c.max(d));
     }
 }
 
@@ -75,11 +61,9 @@ pub fn cubes(
 {
     let least = &mut least[..];
     let greatest = &mut greatest[..];
-    let mut i = 0;
-    while i < many {
-        least[i] = lesser(low[i], low[i + 1]);
-        greatest[i] = greater(high[i], high[i + 1]);
-        i += 1;
+    for i in 0..many {
+        least[i] = low[i].min(low[i + 1]);
+        greatest[i] = high[i].max(high[i + 1]);
     }
 }
 
@@ -97,12 +81,10 @@ pub fn halves(
 {
     let least = &mut least[..];
     let greatest = &mut greatest[..];
-    let mut i = 0;
-    while i < many {
+    for i in 0..many {
         let from = 4 * i;
-        least[i] = lesser(low[from], low[from + 2]);
-        greatest[i] = greater(high[from + 1], high[from + 3]);
-        i += 1;
+        least[i] = low[from].min(low[from + 2]);
+        greatest[i] = high[from + 1].max(high[from + 3]);
     }
 }
 
@@ -111,14 +93,8 @@ pub fn outside(least: &mut [u16; ROW], greatest: &mut [u16; ROW])
     ensures least { least.new ≡ replicate most_side most_number }
     ensures greatest { greatest.new ≡ replicate most_side 0 }
 {
-    let least = &mut least[..];
-    let greatest = &mut greatest[..];
-    let mut i = 0;
-    while i < ROW {
-        least[i] = MOST_NUMBER as u16;
-        greatest[i] = 0;
-        i += 1;
-    }
+    least.fill(MOST_NUMBER as u16);
+    greatest.fill(0);
 }
 
 // Does a row of a list differ from these blocks? Differences are gathered, and tested once.
@@ -134,11 +110,9 @@ pub fn differs(
     ensures { result ≡ not (same_row list.now at many least.now greatest.now) }
 {
     let mut apart = 0;
-    let mut i = 0;
-    while i < many {
+    for i in 0..many {
         let place = at + 2 * i;
         apart = apart | (list[place] ^ least[i]) | (list[place + 1] ^ greatest[i]);
-        i += 1;
     }
     apart != 0
 }
@@ -149,11 +123,9 @@ pub fn store(list: &mut [u16], at: usize, many: usize, least: &[u16; ROW], great
     requires many_in_bounds { at + 2 * many ≤ length list.old }
     ensures { list.new ≡ sets list.old at (row_numbers many least.now greatest.now) }
 {
-    let mut i = 0;
-    while i < many {
+    for i in 0..many {
         let place = at + 2 * i;
         list[place] = least[i];
         list[place + 1] = greatest[i];
-        i += 1;
     }
 }

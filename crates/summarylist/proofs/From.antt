@@ -22,7 +22,7 @@ pub none_yet : (n : Size) (samples list : List ℕ) (k : ℕ) → halvings < k �
 none_yet n samples list k past i from to = absurd (omega arith)
 
 -- the level above those that are there: it can be worked out, and with it there is one more
-module _ (left : ℕ) (some : left ≡ 0 → ⊥) where
+module _ (left : ℕ) (some : 0 < left) where
   pub fits_above : (nx ny nz : ℕ) (samples list : List ℕ) → SidesFit nx ny nz → length samples ≡ sample_count (size nx ny nz) → length list ≡ summary_length
       → left ≤ halvings + 1 → LevelsFrom (size nx ny nz) samples list left → LevelFits nx ny nz (left - 1) samples list
   fits_above nx ny nz samples list fits all long few levels =

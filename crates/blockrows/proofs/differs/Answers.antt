@@ -1,9 +1,8 @@
 -- `blockrows::differs` meets its contract. The loop's invariant: nothing is gathered exactly if the blocks that were passed are the same.
-use mathlib.Core.Path.{◌≡◌, ap, sym, ◌∙◌}
-use mathlib.Core.Bool.{not, ◌&&◌, and_comm, and_assoc}
+use mathlib.Core.Path.{◌≡◌, sym, ◌∙◌}
+use mathlib.Core.Bool.{◌&&◌, and_comm, and_assoc}
 use mathlib.Core.List.{List}
 use Prim.Native.Nat.{ℕ, ◌+◌, ◌*◌}
-use native.Mathlib.Omega.{arith}
 use lib.Bits.{bit_or, bit_xor}
 use lib.Dec.{eqb}
 use lib.ListN.{get_or}
@@ -14,7 +13,7 @@ use Rattle.laws.proofs.Words.{or_is_zero, xor_is_zero}
 use Rattle.blockrows.proofs.differs.Goals as goal
 
 pub loop-i-init : goal.loop-i-init
-loop-i-init c = (omega arith, all_none _)
+loop-i-init c = all_none _
 
 -- one block more: both its differences are gathered
 same_more : (list least greatest : List ℕ) (at i apart : ℕ) → same_row list at i least greatest ≡ eqb apart 0
@@ -28,10 +27,4 @@ same_more list least greatest at i apart same =
 pub loop-i-preserved : goal.loop-i-preserved
 loop-i-preserved c =
     let a = c.args in
-    (omega arith, same_more a.list.now a.least.now a.greatest.now a.at c.loop-i.i c.loop-i.apart c.loop-i.invariant.1)
-
-pub returns : goal.returns
-returns c =
-    let a = c.args in
-    let end : c.loop-i.i ≡ a.many = omega arith in
-    ap not (sym c.loop-i.invariant.1 ∙ ap (λ k. same_row a.list.now a.at k a.least.now a.greatest.now) end)
+    same_more a.list.now a.least.now a.greatest.now a.at c.loop-i.i c.loop-i.apart c.loop-i.invariant

@@ -1,5 +1,5 @@
 -- `blockrows::store` meets its contract. The loop's invariant: the list is as long as ever, and the blocks that were passed stand in it.
-use mathlib.Core.Path.{◌≡◌, refl, ap, sym, ◌∙◌}
+use mathlib.Core.Path.{◌≡◌, refl, ap, sym}
 use mathlib.Core.List.{List, [], ◌∷◌}
 use Prim.Native.Nat.{ℕ, ◌+◌, ◌*◌}
 use native.Mathlib.Numerals.{add-one}
@@ -13,10 +13,7 @@ use Rattle.blockrows.specs.Numbers.{row_numbers}
 use Rattle.blockrows.proofs.store.Goals as goal
 
 pub loop-i-init : goal.loop-i-init
-loop-i-init c = let a = c.args in (omega arith, refl, sym (ap (sets a.list.now a.at) (join_zero _)))
-
-pub bounds-list-place-in-loop-i : goal.bounds-list-place-in-loop-i
-bounds-list-place-in-loop-i c = simp length-set (omega arith)
+loop-i-init c = let a = c.args in (refl, sym (ap (sets a.list.now a.at) (join_zero _)))
 
 pub loop-i-preserved : goal.loop-i-preserved
 loop-i-preserved c =
@@ -25,16 +22,6 @@ loop-i-preserved c =
     let here : ℕ → List ℕ = λ k. get_or a.least.now k 0 ∷ get_or a.greatest.now k 0 ∷ [] in
     let stored = row_numbers i a.least.now a.greatest.now in
     let place : a.at + 2 * i ≡ a.at + length stored = omega (arith, length_rows 2 here (λ k. refl) i) in (
-      omega arith,
-      simp length-set c.loop-i.invariant.1,
-      rw (c.loop-i.invariant.2, place, add-one (a.at + length stored), join_next i here) (sets_append a.list.now a.at stored (here i)),
+      simp length-set c.loop-i.invariant.0,
+      rw (c.loop-i.invariant.1, place, add-one (a.at + length stored), join_next i here) (sets_append a.list.now a.at stored (here i)),
     )
-
-pub shape_of-list : goal.shape_of-list
-shape_of-list c = c.loop-i.invariant.1
-
-pub returns : goal.returns
-returns c =
-    let a = c.args in
-    let end : c.loop-i.i ≡ a.many = omega arith in
-    c.loop-i.invariant.2 ∙ ap (λ k. sets a.list.now a.at (row_numbers k a.least.now a.greatest.now)) end

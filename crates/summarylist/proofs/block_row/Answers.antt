@@ -3,16 +3,8 @@ use Prim.Native.Nat.{◌<◌}
 use native.Mathlib.Omega.{arith}
 use Rattle.grid.specs.Limits.{halvings}
 use Rattle.grid.specs.Work.{size}
-use Rattle.summarylist.proofs.Starts.{side_most}
 use Rattle.summarylist.proofs.Halved.{halved_row}
 use Rattle.summarylist.proofs.block_row.Goals as goal
-
-pub cube_row-requires : goal.cube_row-requires
-cube_row-requires c =
-    let few = side_most c.args.level c.requires.level_fits.level in record { sides_fit = c.requires.level_fits.fits; samples_len = c.requires.level_fits.all; y_lt_most_side = (omega (arith, few, c.requires.y_bound.0), omega (arith, few, c.requires.y_bound.1)) }
-
-pub returns-then-level-eq-HALVINGS : goal.returns-then-level-eq-HALVINGS
-returns-then-level-eq-HALVINGS c = rw c.if-level-eq-HALVINGS.true c.cube_row.ensures
 
 pub returns-else-level-eq-HALVINGS : goal.returns-else-level-eq-HALVINGS
 returns-else-level-eq-HALVINGS c =

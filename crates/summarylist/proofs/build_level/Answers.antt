@@ -1,11 +1,10 @@
 -- `summarylist::build_level` meets its contract. The loop's invariant: the list is as long as ever, the rows that were passed are written, and what stands behind the level is as it was.
 --
-use mathlib.Core.Path.{refl, ◌∙◌}
+use mathlib.Core.Path.{◌∙◌}
 use native.Mathlib.Omega.{arith}
-use borrow.Author.Count.{below_none}
 use Rattle.grid.specs.Work.{size}
 use Rattle.summarylist.proofs.Starts.{is_side_lem, side_most, summary_long}
-use Rattle.summarylist.proofs.Levels.{RowSmall, row_small, rows_few, level_of_rows, fits_kept, rows_more, behind_kept}
+use Rattle.summarylist.proofs.Levels.{RowSmall, row_small, level_of_rows, fits_kept, rows_more, behind_kept}
 use Rattle.summarylist.proofs.build_level.Goals as goal
 use Rattle.summarylist.proofs.build_level.Goals.{In-loop-row}
 
@@ -14,31 +13,10 @@ small : (c : In-loop-row) → RowSmall c.args.level c.requires.level c.loop-row.
 small c =
     row_small c.args.level c.requires.level c.loop-row.row c.loop-row-test.true
 
-pub level_start-start-requires : goal.level_start-start-requires
-level_start-start-requires c = c.requires.level
-
-pub loop-row-init : goal.loop-row-init
-loop-row-init c = (refl, below_none _, λ p l. refl)
-
-pub overflow_mul-side : goal.overflow_mul-side
-overflow_mul-side c = omega (arith, rows_few c.args.level c.requires.level)
-
-pub overflow_mul-y : goal.overflow_mul-y
-overflow_mul-y c = omega (arith, (small (goal.at.overflow_mul-y c).In-loop-row).few, (small (goal.at.overflow_mul-y c).In-loop-row).before_y)
-
-pub overflow_sub-y : goal.overflow_sub-y
-overflow_sub-y c = (small (goal.at.overflow_sub-y c).In-loop-row).before_y
-
 pub block_row-requires : goal.block_row-requires
 block_row-requires c =
     let inv = c.loop-row.invariant in
     let a = c.args in record { level_fits = fits_kept a.nx a.ny a.nz a.level a.samples.now a.list.now c.loop-row.list inv.0 inv.2 c.requires; y_bound = ((small (goal.at.block_row-requires c).In-loop-row).in_y, (small (goal.at.block_row-requires c).In-loop-row).in_z) }
-
-pub overflow_mul-side-in-loop-row : goal.overflow_mul-side-in-loop-row
-overflow_mul-side-in-loop-row c = omega (arith, (small (goal.at.overflow_mul-side-in-loop-row c).In-loop-row).in_list, summary_long)
-
-pub overflow_mul-side-in-loop-row-2 : goal.overflow_mul-side-in-loop-row-2
-overflow_mul-side-in-loop-row-2 c = omega (arith, (small (goal.at.overflow_mul-side-in-loop-row-2 c).In-loop-row).in_list, summary_long)
 
 pub overflow_add-start : goal.overflow_add-start
 overflow_add-start c =
@@ -46,9 +24,6 @@ overflow_add-start c =
 
 pub store-requires : goal.store-requires
 store-requires c = record { many_le_most_side = omega (arith, is_side_lem c.args.level c.requires.level, side_most c.args.level c.requires.level); many_in_bounds = omega (arith, (small (goal.at.store-requires c).In-loop-row).in_list, c.requires.long, c.loop-row.invariant.0, c.level_start-start.ensures) }
-
-pub overflow_add-row : goal.overflow_add-row
-overflow_add-row c = omega (arith, (small (goal.at.overflow_add-row c).In-loop-row).few)
 
 pub loop-row-preserved : goal.loop-row-preserved
 loop-row-preserved c =
@@ -61,9 +36,6 @@ loop-row-preserved c =
       rows_more a.level c.requires.level n a.samples.now c.loop-row.list _ _ _ c.loop-row.row worked-out stored (omega (arith, (small (goal.at.loop-row-preserved c).In-loop-row).in_list, c.requires.long, inv.0)) inv.1,
       λ p lp. behind_kept a.level c.requires.level n a.samples.now c.loop-row.list _ _ _ c.loop-row.row worked-out stored c.loop-row-test.true p lp ∙ inv.2 p lp,
     )
-
-pub shape_of-list : goal.shape_of-list
-shape_of-list c = c.loop-row.invariant.0
 
 pub returns : goal.returns
 returns c =

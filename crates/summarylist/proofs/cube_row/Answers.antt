@@ -1,12 +1,10 @@
 -- `summarylist::cube_row` meets its contract: the row is filled from outside, and where it crosses the grid its cubes in the grid are written over.
 use mathlib.Core.Path.{ap, sym, ◌∙◌}
-use Prim.Native.Nat.{ℕ, ◌+◌, ◌*◌, ◌<◌, ◌≤◌, min, max}
+use Prim.Native.Nat.{ℕ, ◌+◌, ◌<◌, min, max}
 use native.Mathlib.Omega.{arith}
 use lib.ListN.{get_or, get_or-replicate}
-use Rattle.laws.proofs.Digits.{low_lt}
-use Rattle.grid.specs.Limits.{most_number, most_side, most_rows, most_samples}
+use Rattle.grid.specs.Limits.{most_number, most_side}
 use Rattle.grid.specs.Work.{size}
-use Rattle.grid.proofs.Sides.{rows_most, samples_most}
 use Rattle.summary.proofs.Numbers.{InGrid}
 use Rattle.summarylist.proofs.Eight.{for_least, for_greatest}
 use Rattle.summarylist.proofs.Cubes.{rows_end, cube_outside, cubes_row}
@@ -16,28 +14,6 @@ use Rattle.summarylist.proofs.cube_row.Goals.{Then-z-nz, else-y-ny-via-then-y-ny
 -- where the row crosses the grid
 inside : (c : Then-z-nz) → let a = c.args in (a.y + 1 < a.ny) × (a.z + 1 < a.nz)
 inside c = (c.if-y-ny.true, c.if-z-nz.true)
-
--- the row of samples that it starts at, and the last of the four around it
-rows_fit : (c : Then-z-nz) → let a = c.args in
-    (a.y + a.ny * a.z < most_rows) × (a.nx * (a.y + a.ny * a.z) + a.nx * a.ny + a.nx + a.nx ≤ most_samples)
-rows_fit c =
-    let a = c.args in
-    let fits = c.requires.sides_fit in
-    let row = low_lt a.y a.ny a.z a.nz (omega (arith, (inside c).0)) (omega (arith, (inside c).1)) in
-    let end = rows_end a.nx a.ny a.nz a.y a.z (inside c).0 (inside c).1 in
-    (omega (arith, row, rows_most a.nx a.ny a.nz fits), omega (arith, end, samples_most a.nx a.ny a.nz fits))
-
-pub overflow_mul-first : goal.overflow_mul-first
-overflow_mul-first c = omega (arith, (rows_fit (goal.at.overflow_mul-first c).Then-z-nz).0)
-
-pub overflow_add-first : goal.overflow_add-first
-overflow_add-first c = omega (arith, (rows_fit (goal.at.overflow_add-first c).Then-z-nz).0)
-
-pub overflow_mul-first-then-z-nz : goal.overflow_mul-first-then-z-nz
-overflow_mul-first-then-z-nz c = omega (arith, (rows_fit (goal.at.overflow_mul-first-then-z-nz c).Then-z-nz).1)
-
-pub overflow_mul-nx : goal.overflow_mul-nx
-overflow_mul-nx c = omega (arith, (rows_fit (goal.at.overflow_mul-nx c).Then-z-nz).1)
 
 pub columns-requires : goal.columns-requires
 columns-requires c =
@@ -49,8 +25,8 @@ returns-then-z-nz c =
     let a = c.args in
     let n = size a.nx a.ny a.nz in
     record {
-      leasts = λ x l. cubes_row min for_least most_number n a.samples.now a.low.now x a.y a.z l (inside (goal.at.returns-then-z-nz c).Then-z-nz).0 (inside (goal.at.returns-then-z-nz c).Then-z-nz).1 filled.least c.columns.ensures.low c.cubes.ensures.least;
-      greatests = λ x l. cubes_row max for_greatest 0 n a.samples.now a.high.now x a.y a.z l (inside (goal.at.returns-then-z-nz c).Then-z-nz).0 (inside (goal.at.returns-then-z-nz c).Then-z-nz).1 filled.greatest c.columns.ensures.high c.cubes.ensures.greatest;
+      leasts = λ x l. cubes_row min for_least most_number n a.samples.now a.rows.now.low x a.y a.z l (inside (goal.at.returns-then-z-nz c).Then-z-nz).0 (inside (goal.at.returns-then-z-nz c).Then-z-nz).1 filled.least c.columns.ensures.low c.cubes.ensures.least;
+      greatests = λ x l. cubes_row max for_greatest 0 n a.samples.now a.rows.now.high x a.y a.z l (inside (goal.at.returns-then-z-nz c).Then-z-nz).0 (inside (goal.at.returns-then-z-nz c).Then-z-nz).1 filled.greatest c.columns.ensures.high c.cubes.ensures.greatest;
     }
 
 pub returns-else-y-ny : goal.returns-else-y-ny

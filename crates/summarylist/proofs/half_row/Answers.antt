@@ -18,27 +18,6 @@ rows_end : (c : Start) → let a = c.args in
     first_of (level_start (a.level + 1)) side a.y a.z + up_of side + back_of side + back_of side ≤ 599186
 rows_end c = let a = c.args in rw summary_long at (halves_end a.level c.requires.level_lt_halvings a.y a.z c.requires.y_bound.0 c.requires.y_bound.1)
 
-pub overflow_mul-back : goal.overflow_mul-back
-overflow_mul-back c = omega (arith, rows_end (goal.at.overflow_mul-back c).Start)
-
-pub overflow_mul-up : goal.overflow_mul-up
-overflow_mul-up c = omega (arith, rows_end (goal.at.overflow_mul-up c).Start)
-
-pub overflow_mul-up-2 : goal.overflow_mul-up-2
-overflow_mul-up-2 c = omega (arith, rows_end (goal.at.overflow_mul-up-2 c).Start)
-
-pub overflow_mul-first : goal.overflow_mul-first
-overflow_mul-first c = omega (arith, rows_end (goal.at.overflow_mul-first c).Start)
-
-pub overflow_mul-first-2 : goal.overflow_mul-first-2
-overflow_mul-first-2 c = omega (arith, rows_end (goal.at.overflow_mul-first-2 c).Start)
-
-pub overflow_add-first : goal.overflow_add-first
-overflow_add-first c = omega (arith, rows_end (goal.at.overflow_add-first c).Start)
-
-pub overflow_mul-first-3 : goal.overflow_mul-first-3
-overflow_mul-first-3 c = omega (arith, rows_end (goal.at.overflow_mul-first-3 c).Start)
-
 pub overflow_add-first-2 : goal.overflow_add-first-2
 overflow_add-first-2 c = omega (arith, rows_end (goal.at.overflow_add-first-2 c).Start)
 
@@ -54,8 +33,8 @@ returns c =
     let first = c.level_start.ensures in
     record {
       leasts = λ x lx.
-          halves_row a.level c.requires.level_lt_halvings a.y a.z min for_least a.list.now a.low.now a.least.now x 0 lx (omega arith) (rw first at c.columns.ensures.low) c.halves.ensures.least
+          halves_row a.level c.requires.level_lt_halvings a.y a.z min for_least a.list.now a.rows.now.low a.rows.now.least x 0 lx (omega arith) (rw first at c.columns.ensures.low) c.halves.ensures.least
           ∙ ap (λ f. gathered min (half f x a.y a.z) eight) (λ i p q r. get_or a.list.now (add-zero (place_of (a.level + 1) p q r) i) 0);
       greatests = λ x lx.
-          halves_row a.level c.requires.level_lt_halvings a.y a.z max for_greatest a.list.now a.high.now a.greatest.now x 1 lx (omega arith) (rw first at c.columns.ensures.high) c.halves.ensures.greatest;
+          halves_row a.level c.requires.level_lt_halvings a.y a.z max for_greatest a.list.now a.rows.now.high a.rows.now.greatest x 1 lx (omega arith) (rw first at c.columns.ensures.high) c.halves.ensures.greatest;
     }

@@ -6,7 +6,7 @@ use lib.ListN.{length}
 use Rattle.grid.specs.Work.{size}
 use Rattle.summary.proofs.Places.{length_summary, levels_there, summary_is, is_summary_lem, is_no_summary}
 use Rattle.summarylist.proofs.Starts.{summary_long}
-use Rattle.summarylist.proofs.From.{none_yet, fits_above, one_more}
+use Rattle.summarylist.proofs.From.{fits_above, one_more}
 use Rattle.summarylist.proofs.is_summary.Goals as goal
 
 pub returns-then-list-ne-SUMMARY : goal.returns-then-list-ne-SUMMARY
@@ -15,30 +15,27 @@ returns-then-list-ne-SUMMARY c =
     let n = size a.nx a.ny a.nz in
     sym (is_no_summary n a.samples.now a.list.now (λ e. c.if-list-ne-SUMMARY.true (ap length e ∙ length_summary n a.samples.now ∙ summary_long)))
 
-pub loop-left-init : goal.loop-left-init
-loop-left-init c = (omega arith, none_yet _ _ _ _ (omega arith))
-
 pub level_differs-requires : goal.level_differs-requires
 level_differs-requires c =
     let a = c.args in
-    fits_above c.loop-left.left c.loop-left-test.true a.nx a.ny a.nz a.samples.now a.list.now c.requires.sides_fit c.requires.samples_len (c.if-list-ne-SUMMARY.false ∙ sym summary_long) c.loop-left.invariant.0 c.loop-left.invariant.1
+    fits_above c.loop-tested.tested c.loop-tested-test.true a.nx a.ny a.nz a.samples.now a.list.now c.requires.sides_fit c.requires.samples_len (c.if-list-ne-SUMMARY.false ∙ sym summary_long) (omega arith) c.loop-tested.invariant
 
 pub returns-then-level_differs : goal.returns-then-level_differs
 returns-then-level_differs c =
     let a = c.args in
     let n = size a.nx a.ny a.nz in
-    let k = c.loop-left.left - 1 in
+    let k = c.loop-tested.tested - 1 in
     sym (is_no_summary n a.samples.now a.list.now (λ e.
-    c.level_differs.ensures.apart c.if-level_differs.true (rw e (levels_there n a.samples.now k (omega (arith, c.loop-left.invariant.0))))))
+    c.level_differs.ensures.apart c.if-level_differs.true (rw e (levels_there n a.samples.now k (omega arith)))))
 
-pub loop-left-preserved : goal.loop-left-preserved
-loop-left-preserved c =
+pub loop-tested-preserved : goal.loop-tested-preserved
+loop-tested-preserved c =
     let a = c.args in
-    (omega arith, one_more c.loop-left.left c.loop-left-test.true (size a.nx a.ny a.nz) a.samples.now a.list.now c.loop-left.invariant.1 (c.level_differs.ensures.same c.if-level_differs.false))
+    (one_more c.loop-tested.tested c.loop-tested-test.true (size a.nx a.ny a.nz) a.samples.now a.list.now c.loop-tested.invariant (c.level_differs.ensures.same c.if-level_differs.false))
 
 pub returns : goal.returns
 returns c =
     let a = c.args in
     let n = size a.nx a.ny a.nz in
-    let whole = summary_is n a.samples.now a.list.now (c.if-list-ne-SUMMARY.false ∙ sym summary_long) (λ k lk. c.loop-left.invariant.1 k (omega arith) lk) in
+    let whole = summary_is n a.samples.now a.list.now (c.if-list-ne-SUMMARY.false ∙ sym summary_long) (λ k lk. c.loop-tested.invariant k (omega arith) lk) in
     sym (is_summary_lem n a.samples.now a.list.now whole)

@@ -1,10 +1,10 @@
 -- `summarylist::level_differs` meets its contract. The loop's invariant: the rows that were passed are those of the samples' summary.
 use mathlib.Core.Bool.{true≢false, false≢true}
 use native.Mathlib.Omega.{arith}
-use borrow.Author.Count.{below_none, below_more}
+use borrow.Author.Count.{below_more}
 use Rattle.grid.specs.Work.{size}
 use Rattle.summarylist.proofs.Starts.{is_side_lem, side_most, summary_long}
-use Rattle.summarylist.proofs.Levels.{RowSmall, row_small, rows_few, level_of_rows, row_of_level, row_same, row_apart}
+use Rattle.summarylist.proofs.Levels.{RowSmall, row_small, level_of_rows, row_of_level, row_same, row_apart}
 use Rattle.summarylist.proofs.level_differs.Goals as goal
 use Rattle.summarylist.proofs.level_differs.Goals.{In-loop-row}
 
@@ -12,30 +12,6 @@ use Rattle.summarylist.proofs.level_differs.Goals.{In-loop-row}
 small : (c : In-loop-row) → RowSmall c.args.level c.requires.level c.loop-row.row
 small c =
     row_small c.args.level c.requires.level c.loop-row.row c.loop-row-test.true
-
-pub level_start-start-requires : goal.level_start-start-requires
-level_start-start-requires c = c.requires.level
-
-pub loop-row-init : goal.loop-row-init
-loop-row-init c = below_none _
-
-pub overflow_mul-side : goal.overflow_mul-side
-overflow_mul-side c = omega (arith, rows_few c.args.level c.requires.level)
-
-pub overflow_mul-y : goal.overflow_mul-y
-overflow_mul-y c = omega (arith, (small (goal.at.overflow_mul-y c).In-loop-row).few, (small (goal.at.overflow_mul-y c).In-loop-row).before_y)
-
-pub overflow_sub-y : goal.overflow_sub-y
-overflow_sub-y c = (small (goal.at.overflow_sub-y c).In-loop-row).before_y
-
-pub block_row-requires : goal.block_row-requires
-block_row-requires c = record { level_fits = c.requires; y_bound = ((small (goal.at.block_row-requires c).In-loop-row).in_y, (small (goal.at.block_row-requires c).In-loop-row).in_z) }
-
-pub overflow_mul-side-in-loop-row : goal.overflow_mul-side-in-loop-row
-overflow_mul-side-in-loop-row c = omega (arith, (small (goal.at.overflow_mul-side-in-loop-row c).In-loop-row).in_list, summary_long)
-
-pub overflow_mul-side-in-loop-row-2 : goal.overflow_mul-side-in-loop-row-2
-overflow_mul-side-in-loop-row-2 c = omega (arith, (small (goal.at.overflow_mul-side-in-loop-row-2 c).In-loop-row).in_list, summary_long)
 
 pub overflow_add-start : goal.overflow_add-start
 overflow_add-start c =
@@ -56,12 +32,6 @@ returns-then-differs c =
           (row_of_level a.level c.requires.level n a.samples.now a.list.now level c.loop-row.row c.loop-row-test.true);
       same = λ e. absurd (true≢false e);
     }
-
-pub overflow_add-row : goal.overflow_add-row
-overflow_add-row c = omega (arith, (small (goal.at.overflow_add-row c).In-loop-row).few)
-
-pub loop-row-smaller : goal.loop-row-smaller
-loop-row-smaller c = omega (arith, c.loop-row-test.true)
 
 pub loop-row-preserved : goal.loop-row-preserved
 loop-row-preserved c =
