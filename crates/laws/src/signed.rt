@@ -56,12 +56,9 @@ pub fn is_negative(a: i64) -> bool
     a < 0
 }
 
-// The size of a number, without its sign. That of the least number is no signed number, so 1 is added after the turn.
+// The size of a number, without its sign.
 pub fn size(a: i64) -> u64
     ensures { result ≡ nat_abs a }
 {
-    if is_negative(a) {
-        return ((-1 - a) as u64) + 1;
-    }
-    a as u64
+    a.unsigned_abs()
 }
