@@ -13,7 +13,9 @@ use Rattle.grid.specs.Limits.{most_rounds, most_weight, most_small, most_number}
 use Rattle.grid.specs.Sides.{sides_fit}
 use Rattle.grid.proofs.Sides.{sides_within}
 use Rattle.reading.specs.Reading.{got, GotRows, malformed, rows, read_rows}
-use Rattle.gridtext.specs.Grid.{samples_of, smoothing_fits, head_number, refused_answer, refused, grant, granted, with_rows, with_head}
+use Rattle.std.specs.Prelude.{Ok, Err}
+use Rattle.grid.specs.declared.refusal.Refusal.TheVariants.{GridLine}
+use Rattle.gridtext.specs.Grid.{samples_of, smoothing_fits, head_number, refused, granted, with_rows, with_head}
 use Rattle.gridtext.specs.Promise.{samples_filled, left}
 use Rattle.gridtext.specs.declared.Head.{Head}
 
@@ -53,13 +55,13 @@ module _ (h : Head) (rest room : List ℕ) where
 
 -- after the rows
 module _ (h : Head) (read : GotRows) (room exit : List ℕ) (x : exit ≡ samples_filled read room) where
-  pub rows_refused : (line : ℕ) → read ≡ malformed line → left (refused_answer 12 line) exit ≡ with_rows h room read
+  pub rows_refused : (line : ℕ) → read ≡ malformed line → left (Err (GridLine line)) exit ≡ with_rows h room read
   unfolding with_rows refused samples_filled
   rows_refused line q =
       let y : exit ≡ room = x ∙ rw q in
       rw (q, y)
 
-  pub rows_granted : (ns : List ℕ) → read ≡ rows ns → left (grant h) exit ≡ with_rows h room read
+  pub rows_granted : (ns : List ℕ) → read ≡ rows ns → left (Ok h) exit ≡ with_rows h room read
   unfolding with_rows granted samples_filled
   rows_granted ns q =
       let y : exit ≡ laid ns room = x ∙ rw q in

@@ -6,7 +6,6 @@ use Rattle.grid.specs.Limits.{number_digits, most_rounds, most_weight, most_smal
 use Rattle.reading.specs.Reading.{Got, bad, got, after, read_row, GotRows, malformed, rows, read_rows}
 use Rattle.lines.specs.Line.{tab}
 use Rattle.gridtext.specs.declared.Head.{Head}
-use Rattle.gridtext.specs.declared.Parsed.{Parsed}
 
 -- line 1: `G`, then nx, ny, nz, grey value, rounds, weight
 abbrev pub letter_g : ℕ
@@ -33,6 +32,17 @@ unfoldable pub head_number : Head → ℕ
 head_number h =
     cond (not (sides_fit h.nx h.ny h.nz)) 1
     (cond (not (leb (samples_of h) most_small)) 13 (cond (not (smoothing_fits h)) 10 0))
+
+-- an answer in numbers: 0 and line 1's numbers if granted, else the refusal's number and line, and zeros
+pub record Parsed : Type 0 where
+  pub number : ℕ
+  pub line : ℕ
+  pub nx : ℕ
+  pub ny : ℕ
+  pub nz : ℕ
+  pub grey : ℕ
+  pub rounds : ℕ
+  pub weight : ℕ
 
 -- what a call leaves behind: the answer, and the room that was lent for the samples
 pub record Outcome : Type 0 where

@@ -4,30 +4,20 @@
 
 ghost use Rattle.std.specs.Prelude.{◌≡◌, ◌*◌, ◌≤◌, length, take, drop};
 ghost use Rattle.grid.specs.Limits.{most_small, most_number};
+ghost use Rattle.grid.specs.Refusal.{told};
+ghost use Rattle.reading.specs.Told.{told_line};
 ghost use Rattle.reading.specs.Reading.{got, read_rows};
 ghost use Rattle.reading.specs.Answers.{answered, answered_rows};
-ghost use Rattle.gridtext.specs.Grid.{head_of, read_head, head_number, refused_answer, with_head};
+ghost use Rattle.gridtext.specs.Grid.{head_of, read_head, head_number, with_head};
 ghost use Rattle.gridtext.specs.Promise.{samples_filled, left, ReadsGrid};
 
 use grid::limits::{MOST_ROUNDS, MOST_SMALL, MOST_WEIGHT};
+use grid::refusal::Refusal;
 use reading::{read_row, read_rows};
 
 // The numbers of line 1.
 #[derive(Clone, Copy)]
 pub struct Head {
-    pub nx: u32,
-    pub ny: u32,
-    pub nz: u32,
-    pub grey: u16,
-    pub rounds: u32,
-    pub weight: u32,
-}
-
-// Number 0 and line 1's numbers if granted, else the refusal's number and line, and zeros.
-#[derive(Clone, Copy)]
-pub struct Parsed {
-    pub number: u32,
-    pub line: u32,
     pub nx: u32,
     pub ny: u32,
     pub nz: u32,
@@ -53,24 +43,24 @@ impl From<[u16; 6]> for Head {
     }
 }
 
-// The first number that refuses line 1's numbers, or 0. The sides are within their limit before they are multiplied.
+// The checks of line 1's numbers, in order. The sides are within their limit before they are multiplied.
 #[tactic(auto, unfolding(crate::specs::Grid::head_number, crate::specs::Grid::smoothing_fits))]
-fn head_number(head: Head) -> u32
-    ensures { result ≡ head_number head }
+fn check_head(head: Head) -> Result<(), Refusal>
+    ensures { (told result ≡ head_number head) × (told_line result ≡ 0) }
 {
     if !grid::sides_fit(head.nx, head.ny, head.nz) {
-        return 1;
+        return Err(Refusal::Side);
     }
     if head.nx * (head.ny * head.nz) > MOST_SMALL {
-        return 13;
+        return Err(Refusal::Small);
     }
     if head.rounds > MOST_ROUNDS {
-        return 10;
+        return Err(Refusal::Smoothing);
     }
     if head.weight > MOST_WEIGHT {
-        return 10;
+        return Err(Refusal::Smoothing);
     }
-    0
+    Ok(())
 }
 
 // Line 1: `G`, and six numbers; and the place behind it.
@@ -104,56 +94,29 @@ fn fill(input: &[u8], from: usize, width: usize, count: u32, samples: &mut [u16]
     Ok(())
 }
 
-fn refused(number: u32, line: u32) -> Parsed
-    ensures { result ≡ refused_answer number line }
-{
-    Parsed {
-        number,
-        line,
-        nx: 0,
-        ny: 0,
-        nz: 0,
-        grey: 0,
-        rounds: 0,
-        weight: 0,
-    }
-}
-
 // After line 1, whose numbers passed their checks.
-fn read_samples(input: &[u8], from: usize, head: Head, samples: &mut [u16]) -> Parsed
+fn read_samples(input: &[u8], from: usize, head: Head, samples: &mut [u16]) -> Result<Head, Refusal>
     requires { head_number head ≡ 0 }
     ensures { left result samples.new ≡ with_head samples.old (got head (drop from input.now)) }
 {
     let width = head.nx as usize;
     let count = head.ny * head.nz;
     if samples.len() < width * (count as usize) {
-        return refused(3, 0);
+        return Err(Refusal::Room);
     }
-    if let Err(line) = fill(input, from, width, count, samples) {
-        return refused(12, line);
-    }
-    Parsed {
-        number: 0,
-        line: 0,
-        nx: head.nx,
-        ny: head.ny,
-        nz: head.nz,
-        grey: head.grey,
-        rounds: head.rounds,
-        weight: head.weight,
+    match fill(input, from, width, count, samples) {
+        Ok(()) => Ok(head),
+        Err(line) => Err(Refusal::GridLine(line)),
     }
 }
 
-// Reads the text of a small grid; its samples go to the front of the room. A refusal leaves the room.
-pub fn read_grid(input: &[u8], samples: &mut [u16]) -> Parsed
+// Reads the text of a small grid, and answers the numbers of its line 1; its samples go to the front of the room. A refusal leaves the room.
+pub fn read_grid(input: &[u8], samples: &mut [u16]) -> Result<Head, Refusal>
     ensures { ReadsGrid input.now samples.old (left result samples.new) }
 {
     let Some((head, next)) = read_head(input) else {
-        return refused(12, 1);
+        return Err(Refusal::GridLine(1));
     };
-    let number = head_number(head);
-    if number != 0 {
-        return refused(number, 0);
-    }
+    check_head(head)?;
     read_samples(input, next, head, samples)
 }

@@ -12,17 +12,17 @@ overflow_mul-width c = omega (arith, (passed c.args.head c.requires).1)
 
 pub returns-then-samples-width : goal.returns-then-samples-width
 unfolding refused
-returns-then-samples-width c = rw c.refused.ensures (room_short c.args.head _ c.args.samples.now c.requires c.if-samples-width.true)
+returns-then-samples-width c = room_short c.args.head _ c.args.samples.now c.requires c.if-samples-width.true
 
 pub fill-requires : goal.fill-requires
 fill-requires c = ((passed c.args.head c.requires).1, c.if-samples-width.false, rows_few c.args.head c.requires)
 
+pub returns-in-Ok : goal.returns-in-Ok
+returns-in-Ok c =
+    rw (room_holds c.args.head _ c.args.samples.now c.requires c.if-samples-width.false)
+    (rows_granted c.args.head _ c.args.samples.now c.fill.new.samples c.in-Ok.ensures.room _ c.in-Ok.ensures.line)
+
 pub returns-in-Err : goal.returns-in-Err
 returns-in-Err c =
-    rw (c.refused-in-Err.ensures, room_holds c.args.head _ c.args.samples.now c.requires c.if-samples-width.false)
-    (rows_refused c.args.head _ c.args.samples.now c.fill.new.samples c.in-Err.ensures.room _ c.in-Err.ensures.line)
-
-pub returns : goal.returns
-returns c =
     rw (room_holds c.args.head _ c.args.samples.now c.requires c.if-samples-width.false)
-    (rows_granted c.args.head _ c.args.samples.now c.fill.new.samples c.in_default.ensures.room _ c.in_default.ensures.line)
+    (rows_refused c.args.head _ c.args.samples.now c.fill.new.samples c.in-Err.ensures.room _ c.in-Err.ensures.line)

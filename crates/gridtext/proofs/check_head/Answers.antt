@@ -1,8 +1,8 @@
--- `gridtext::head_number` meets its contract: the checks in order.
+-- `gridtext::check_head` meets its contract: the checks in order.
 use mathlib.Core.Path.{sym, ◌∙◌}
 use native.Mathlib.Omega.{arith}
 use Rattle.grid.proofs.Sides.{sides_within, rows_most, samples_most}
-use Rattle.gridtext.proofs.head_number.Goals as goal
+use Rattle.gridtext.proofs.check_head.Goals as goal
 
 pub overflow_mul-head : goal.overflow_mul-head
 overflow_mul-head c =
