@@ -25,6 +25,15 @@ number_of Layer = 17
 number_of Closing = 18
 number_of Summary = 19
 
+-- the malformed line of a grid's text, and that of a mesh's text, which a refusal names; 0 where it names none
+abbrev pub grid_line : Refusal → ℕ
+grid_line (GridLine at) = at
+grid_line other = 0
+
+abbrev pub mesh_line : Refusal → ℕ
+mesh_line (MeshLine at) = at
+mesh_line other = 0
+
 -- an answer's number: 0 if granted
 abbrev pub told : {A : Type 0} → Result A Refusal → ℕ
 told (Ok a) = 0
@@ -33,3 +42,8 @@ told (Err e) = number_of e
 -- what is answered if granted, else what stands for nothing
 abbrev pub granted_or : {A : Type 0} → A → Result A Refusal → A
 granted_or none r = result_unwrap_or r none
+
+-- the line that an answer names
+abbrev pub told_line : {A : Type 0} → Result A Refusal → ℕ
+told_line (Ok a) = 0
+told_line (Err e) = mesh_line e

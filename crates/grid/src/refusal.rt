@@ -1,6 +1,6 @@
 // Document 01, "Numbers that refuse", and those that document 02 adds.
 ghost use Rattle.std.specs.Prelude.{◌≡◌};
-ghost use Rattle.grid.specs.Refusal.{number_of, told};
+ghost use Rattle.grid.specs.Refusal.{number_of, grid_line, mesh_line, told};
 
 // Why a call is refused. A malformed line of a text is named.
 #[derive(Clone, Copy, Debug, PartialEq, Eq)]
@@ -51,6 +51,26 @@ impl Refusal {
             Refusal::Layer => 17,
             Refusal::Closing => 18,
             Refusal::Summary => 19,
+        }
+    }
+
+    // The malformed line of a grid's text that it names, or 0.
+    pub fn grid_line(self) -> u32
+        ensures { result ≡ grid_line self }
+    {
+        match self {
+            Refusal::GridLine(line) => line,
+            _ => 0,
+        }
+    }
+
+    // The malformed line of a mesh's text that it names, or 0.
+    pub fn mesh_line(self) -> u64
+        ensures { result ≡ mesh_line self }
+    {
+        match self {
+            Refusal::MeshLine(line) => line,
+            _ => 0,
         }
     }
 }
