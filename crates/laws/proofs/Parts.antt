@@ -60,9 +60,6 @@ module _ {A : Type 0} (room xs : List A) (at long : ℕ) (e : length xs ≡ long
   pub put_back : take at room ++ (xs ++ drop long (drop at room)) ≡ sets room at xs
   put_back = rw (sym e) (put_sets room at xs (omega arith))
 
-  pub part_back : part_of at long (take at room ++ (xs ++ drop long (drop at room))) ≡ xs
-  part_back = rw put_back (rw (sym e) (part_written room at xs (omega arith)))
-
 -- the front of a room that was lent, and came back as a part of a list
 pub front_back : {A : Type 0} (read room front : List A) (from long : ℕ) → long ≤ length room → from + long ≤ length read → front ≡ part_of from (length (take long room)) read
     → front ++ drop long room ≡ laid (part_of from long read) room

@@ -4,11 +4,13 @@
 
 ghost use Rattle.std.specs.Prelude.{◌≡◌, ◌+◌, ◌*◌, ◌<◌, length};
 ghost use Rattle.laws.specs.Mesh.{triangle};
+ghost use Rattle.grid.specs.Refusal.{told};
 ghost use Rattle.mesh.specs.Check.{lengths_fit, names_three, triangles_fit, all_within};
 ghost use Rattle.mesh.specs.Place.{place_of};
 ghost use Rattle.mesh.specs.Promise.{Checked};
 
 use grid::limits::{MOST_COORDINATE, MOST_POINTS, MOST_TRIANGLES};
+use grid::refusal::Refusal;
 
 // Where a point stands.
 #[derive(Clone, Copy)]
@@ -92,23 +94,23 @@ pub fn all_within(numbers: &[u32], most: u32) -> bool
     numbers.iter().all(|x| *x <= most)
 }
 
-// The first of the numbers 6, 7, 8, 9 that holds of a mesh, or 0.
+// The first of the refusals 6, 7, 8, 9 that holds of a mesh.
 #[tactic(auto, unfolding(crate::specs::Check::mesh_number))]
-pub fn check(points: &[u32], triangles: &[u32], marks: &[u8]) -> u32
-    ensures { Checked points.now triangles.now marks.now result }
+pub fn check(points: &[u32], triangles: &[u32], marks: &[u8]) -> Result<(), Refusal>
+    ensures { Checked points.now triangles.now marks.now (told result) }
 {
     let v = marks.len();
     if !lengths_fit(points.len(), triangles.len(), v) {
-        return 6;
+        return Err(Refusal::Lengths);
     }
     if !triangles_fit(triangles, v) {
-        return 7;
+        return Err(Refusal::Corners);
     }
     if !all_within(points, MOST_COORDINATE) {
-        return 8;
+        return Err(Refusal::Coordinates);
     }
     if !marks.iter().all(|mark| *mark <= 1) {
-        return 9;
+        return Err(Refusal::Marks);
     }
-    0
+    Ok(())
 }

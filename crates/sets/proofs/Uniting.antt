@@ -68,6 +68,3 @@ uniting_more triangles old room mid after k l u a b =
         go (no ge) =
             let q : k ≡ i = omega arith in
             subst (Together triangles after) q (b.keeps _ _ a.joins, b.joins)
-
-pub united : (triangles old room : List ℕ) (k : ℕ) → k ≡ triangle_count triangles → Uniting triangles old room k → United triangles old room
-united triangles old room k e u = record { falls = u.falls; long = u.long; together = λ i l. u.together i (omega (arith, e)); sound = u.sound }

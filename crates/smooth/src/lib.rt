@@ -4,12 +4,14 @@
 
 ghost use Rattle.std.specs.Prelude.{◌≡◌, ◌+◌, ◌*◌, ◌≤◌, length, replicate};
 ghost use Rattle.grid.specs.Limits.{most_rounds, most_weight};
+ghost use Rattle.grid.specs.Refusal.{told};
 ghost use Rattle.mesh.specs.Mesh.{triangle_count, triangles_of};
 ghost use Rattle.mesh.specs.Check.{mesh_number};
 ghost use Rattle.rounds.specs.Round.{rounds as roundsOf};
 ghost use Rattle.smooth.specs.Promise.{Smooths};
 
 use grid::limits::{MOST_ROUNDS, MOST_WEIGHT};
+use grid::refusal::Refusal;
 use rooms::copy;
 use rounds::round;
 
@@ -50,27 +52,24 @@ pub fn smooth(
     weight: u32,
     smoothed: &mut [u32],
     work: &mut [u32],
-) -> u32
+) -> Result<(), Refusal>
     ensures { Smooths points.now triangles.now marks.now rounds weight
-        smoothed.old work.old result smoothed.new work.new }
+        smoothed.old work.old (told result) smoothed.new work.new }
 {
-    let number = mesh::check(points, triangles, marks);
-    if number != 0 {
-        return number;
-    }
+    mesh::check(points, triangles, marks)?;
     if rounds > MOST_ROUNDS {
-        return 10;
+        return Err(Refusal::Smoothing);
     }
     if weight > MOST_WEIGHT {
-        return 10;
+        return Err(Refusal::Smoothing);
     }
     let v = marks.len();
     if smoothed.len() != 3 * v {
-        return 3;
+        return Err(Refusal::Room);
     }
     if work.len() != 2 * triangles.len() + 5 * v + 1 {
-        return 3;
+        return Err(Refusal::Room);
     }
     granted(points, triangles, marks, rounds, weight, smoothed, work);
-    0
+    Ok(())
 }
