@@ -4,55 +4,42 @@
 
 ghost use Rattle.std.specs.Prelude.{◌≡◌, true, length};
 ghost use Rattle.grid.specs.Grid.{axes, sample_count, edge_count};
+ghost use Rattle.grid.specs.Refusal.{told};
 ghost use Rattle.grid.specs.Work.{size, SidesFit};
 ghost use Rattle.summary.specs.Blocks.{is_summary};
 ghost use Rattle.extract.specs.Promise.{rooms};
-ghost use Rattle.query.specs.Promise.{built_left, query_left, Builds, Queries, Answers};
+ghost use Rattle.query.specs.Promise.{built_left, query_answered, Builds, Queries, Answers};
 
+use grid::refusal::Refusal;
 use steps::FOUND_WORDS;
 use summarylist::SUMMARY;
 
-// The refusal of a lent summary that is not that of the samples.
-const NO_SUMMARY: u32 = 19;
-
-// Number 0 and the three counts if granted, else the refusal's number and zero counts.
+// How many points and triangles a mesh has, and how many blocks were looked at for it.
 #[derive(Clone, Copy)]
 pub struct Queried {
-    pub number: u32,
     pub points: u32,
     pub triangles: u32,
     pub blocks: u32,
 }
 
-fn refused(number: u32) -> Queried
-    ensures { (result.number ≡ number) × (result.points ≡ 0) × (result.triangles ≡ 0) × (result.blocks ≡ 0) }
-{
-    Queried {
-        number,
-        points: 0,
-        triangles: 0,
-        blocks: 0,
-    }
-}
-
-// The summary of the samples, into a room of its length: 0, or the refusal's number.
-pub fn build(nx: u32, ny: u32, nz: u32, samples: &[u16], room: &mut [u16]) -> u32
-    ensures { Builds nx ny nz samples.now room.old (built_left result room.new) }
+// The summary of the samples, into a room of its length.
+pub fn build(nx: u32, ny: u32, nz: u32, samples: &[u16], room: &mut [u16]) -> Result<(), Refusal>
+    ensures { Builds nx ny nz samples.now room.old (built_left (told result) room.new) }
 {
     if !grid::sides_fit(nx, ny, nz) {
-        return 1;
+        return Err(Refusal::Side);
     }
     let x = nx as usize;
     let y = ny as usize;
     let z = nz as usize;
     if samples.len() != x * (y * z) {
-        return 2;
+        return Err(Refusal::Samples);
     }
     if room.len() != SUMMARY {
-        return 3;
+        return Err(Refusal::Room);
     }
     summarylist::build(x, y, z, samples, room);
-    0
+    Ok(())
 }
 
 // The steps look at the summary alone; the mesh is made where they found cubes.
@@ -68,29 +55,25 @@ fn answered(
     marks: &mut [u8],
     triangles: &mut [u32],
     work: &mut [u32],
-) -> Queried
+) -> Result<Queried, Refusal>
     requires sides_fit { SidesFit nx ny nz }
     requires samples_len { length samples.now ≡ sample_count (size nx ny nz) }
     requires work_len { length work.old ≡ edge_count axes (size nx ny nz) }
     requires summary_value { is_summary (size nx ny nz) samples.now summary.now ≡ true }
     ensures { let before = rooms points.old edges.old marks.old triangles.old work.old in
         let after = rooms points.new edges.new marks.new triangles.new work.new in
-        Answers nx ny nz grey samples.now summary.now before (query_left result.number result.points result.triangles result.blocks after) }
+        Answers nx ny nz grey samples.now summary.now before (query_answered result after) }
 {
     let mut found = [0u64; FOUND_WORDS];
     let blocks = steps::look_at_all(summary, grey, &mut found);
     let mesh = extract::measured(
         nx, ny, nz, grey, samples, &found, points, edges, marks, triangles, work,
-    );
-    if mesh.number != 0 {
-        return refused(mesh.number);
-    }
-    Queried {
-        number: 0,
+    )?;
+    Ok(Queried {
         points: mesh.points,
         triangles: mesh.triangles,
         blocks,
-    }
+    })
 }
 
 // The mesh of a grid at one grey value by the summary of its samples, into lent rooms.
@@ -106,27 +89,27 @@ pub fn query(
     marks: &mut [u8],
     triangles: &mut [u32],
     work: &mut [u32],
-) -> Queried
+) -> Result<Queried, Refusal>
     ensures { let before = rooms points.old edges.old marks.old triangles.old work.old in
         let after = rooms points.new edges.new marks.new triangles.new work.new in
-        Queries nx ny nz grey samples.now summary.now before (query_left result.number result.points result.triangles result.blocks after) }
+        Queries nx ny nz grey samples.now summary.now before (query_answered result after) }
 {
     if !grid::sides_fit(nx, ny, nz) {
-        return refused(1);
+        return Err(Refusal::Side);
     }
     let x = nx as usize;
     let y = ny as usize;
     let z = nz as usize;
     let count = x * (y * z);
     if samples.len() != count {
-        return refused(2);
+        return Err(Refusal::Samples);
     }
     if work.len() != 3 * count {
-        return refused(3);
+        return Err(Refusal::Room);
     }
     if !summarylist::is_summary(x, y, z, samples, summary) {
         rooms::clear(work);
-        return refused(NO_SUMMARY);
+        return Err(Refusal::Summary);
     }
     answered(
         x, y, z, grey, samples, summary, points, edges, marks, triangles, work,

@@ -3,7 +3,7 @@ use mathlib.Core.Path.{◌≡◌, sym, ◌∙◌}
 use mathlib.Core.Bool.{true}
 use native.Mathlib.Omega.{arith}
 use Rattle.grid.specs.Sides.{sides_fit}
-use Rattle.grid.proofs.Sides.{sides_within, rows_most, samples_most}
+use Rattle.grid.proofs.Sides.{sides_within, samples_most}
 use Rattle.summary.specs.Blocks.{summary_length, level_start}
 use Rattle.query.proofs.Ways.{built_sides, built_samples, built_room, built_granted}
 use Rattle.query.proofs.build.Goals as goal
@@ -19,11 +19,6 @@ pub returns-then-not-sides_fit : goal.returns-then-not-sides_fit
 returns-then-not-sides_fit c =
     let a = c.args in
     built_sides a.nx a.ny a.nz a.samples.now a.room.now (sym c.sides_fit.ensures ∙ c.if-not-sides_fit.true)
-
-pub overflow_mul-y : goal.overflow_mul-y
-overflow_mul-y c =
-    let a = c.args in
-    omega (arith, rows_most a.nx a.ny a.nz (sides_within a.nx a.ny a.nz (fit (goal.at.overflow_mul-y c).Else-not-sides_fit)))
 
 pub overflow_mul-x : goal.overflow_mul-x
 overflow_mul-x c =
@@ -41,10 +36,12 @@ returns-then-room-ne-SUMMARY c =
     let a = c.args in
     built_room a.nx a.ny a.nz a.samples.now a.room.now (fit (goal.at.returns-then-room-ne-SUMMARY c).Else-not-sides_fit) c.if-samples-x.false c.if-room-ne-SUMMARY.true
 
-pub build-requires : goal.build-requires
+pub build-requires-clause-sides_fit : goal.build-requires-clause-sides_fit
+build-requires-clause-sides_fit c = let a = c.args in sides_within a.nx a.ny a.nz (fit (goal.at.build-requires-clause-sides_fit c).Else-not-sides_fit)
+
+pub build-requires-clause-list_len : goal.build-requires-clause-list_len
 unfolding summary_length level_start
-build-requires c =
-    let a = c.args in record { sides_fit = sides_within a.nx a.ny a.nz (fit (goal.at.build-requires c).Else-not-sides_fit); samples_len = c.if-samples-x.false; list_len = c.if-room-ne-SUMMARY.false }
+build-requires-clause-list_len c = c.if-room-ne-SUMMARY.false
 
 pub returns : goal.returns
 unfolding summary_length level_start

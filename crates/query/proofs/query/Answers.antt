@@ -3,10 +3,9 @@ use mathlib.Core.Path.{◌≡◌, sym, ◌∙◌}
 use mathlib.Core.Bool.{true}
 use native.Mathlib.Omega.{arith}
 use Rattle.grid.specs.Sides.{sides_fit}
-use Rattle.grid.proofs.Sides.{sides_within, rows_most, samples_most}
+use Rattle.grid.proofs.Sides.{sides_within, samples_most}
 use Rattle.extract.specs.Extraction.{Rooms}
 use Rattle.extract.specs.Promise.{rooms}
-use Rattle.query.specs.Promise.{query_left}
 use Rattle.query.proofs.Ways.{refused_sides, refused_samples, refused_work, refused_summary, past_summary}
 use Rattle.query.proofs.query.Goals as goal
 use Rattle.query.proofs.query.Goals.{Else-not-sides_fit, Start}
@@ -25,13 +24,7 @@ fit c = sym c.sides_fit.ensures ∙ c.if-not-sides_fit.false
 pub returns-then-not-sides_fit : goal.returns-then-not-sides_fit
 returns-then-not-sides_fit c =
     let a = c.args in
-    (λ i. query_left (c.refused.ensures.0 i) (c.refused.ensures.1 i) (c.refused.ensures.2 i) (c.refused.ensures.3 i) (lent (goal.at.returns-then-not-sides_fit c).Start))
-    ∙ refused_sides a.nx a.ny a.nz a.grey a.samples.now a.summary.now (lent (goal.at.returns-then-not-sides_fit c).Start) (sym c.sides_fit.ensures ∙ c.if-not-sides_fit.true)
-
-pub overflow_mul-count : goal.overflow_mul-count
-overflow_mul-count c =
-    let a = c.args in
-    omega (arith, rows_most a.nx a.ny a.nz (sides_within a.nx a.ny a.nz (fit (goal.at.overflow_mul-count c).Else-not-sides_fit)))
+    refused_sides a.nx a.ny a.nz a.grey a.samples.now a.summary.now (lent (goal.at.returns-then-not-sides_fit c).Start) (sym c.sides_fit.ensures ∙ c.if-not-sides_fit.true)
 
 pub overflow_mul-count-2 : goal.overflow_mul-count-2
 overflow_mul-count-2 c =
@@ -41,31 +34,25 @@ overflow_mul-count-2 c =
 pub returns-then-samples-count : goal.returns-then-samples-count
 returns-then-samples-count c =
     let a = c.args in
-    (λ i. query_left (c.refused-then-samples-count.ensures.0 i) (c.refused-then-samples-count.ensures.1 i) (c.refused-then-samples-count.ensures.2 i) (c.refused-then-samples-count.ensures.3 i) (lent (goal.at.returns-then-samples-count c).Start))
-    ∙ refused_samples a.nx a.ny a.nz a.grey a.samples.now a.summary.now (lent (goal.at.returns-then-samples-count c).Start) (fit (goal.at.returns-then-samples-count c).Else-not-sides_fit) c.if-samples-count.true
+    refused_samples a.nx a.ny a.nz a.grey a.samples.now a.summary.now (lent (goal.at.returns-then-samples-count c).Start) (fit (goal.at.returns-then-samples-count c).Else-not-sides_fit) c.if-samples-count.true
 
 pub returns-then-work-count : goal.returns-then-work-count
 returns-then-work-count c =
     let a = c.args in
-    (λ i. query_left (c.refused-then-work-count.ensures.0 i) (c.refused-then-work-count.ensures.1 i) (c.refused-then-work-count.ensures.2 i) (c.refused-then-work-count.ensures.3 i) (lent (goal.at.returns-then-work-count c).Start))
-    ∙ refused_work a.nx a.ny a.nz a.grey a.samples.now a.summary.now (lent (goal.at.returns-then-work-count c).Start) (fit (goal.at.returns-then-work-count c).Else-not-sides_fit) c.if-samples-count.false c.if-work-count.true
+    refused_work a.nx a.ny a.nz a.grey a.samples.now a.summary.now (lent (goal.at.returns-then-work-count c).Start) (fit (goal.at.returns-then-work-count c).Else-not-sides_fit) c.if-samples-count.false c.if-work-count.true
 
-pub is_summary-requires : goal.is_summary-requires
-is_summary-requires c =
-    let a = c.args in record { sides_fit = sides_within a.nx a.ny a.nz (fit (goal.at.is_summary-requires c).Else-not-sides_fit); samples_len = c.if-samples-count.false }
+pub is_summary-requires-clause-sides_fit : goal.is_summary-requires-clause-sides_fit
+is_summary-requires-clause-sides_fit c = let a = c.args in sides_within a.nx a.ny a.nz (fit (goal.at.is_summary-requires-clause-sides_fit c).Else-not-sides_fit)
 
 pub returns-then-not-is_summary : goal.returns-then-not-is_summary
 returns-then-not-is_summary c =
     let a = c.args in
     let work = c.clear.new.room in
-    let rest = rooms a.points.now a.edges.now a.marks.now a.triangles.now work in
-    (λ i. query_left (c.refused-then-not-is_summary.ensures.0 i) (c.refused-then-not-is_summary.ensures.1 i) (c.refused-then-not-is_summary.ensures.2 i) (c.refused-then-not-is_summary.ensures.3 i) rest)
-    ∙ refused_summary a.nx a.ny a.nz a.grey a.samples.now a.summary.now (lent (goal.at.returns-then-not-is_summary c).Start) (fit (goal.at.returns-then-not-is_summary c).Else-not-sides_fit) c.if-samples-count.false c.if-work-count.false work
+    refused_summary a.nx a.ny a.nz a.grey a.samples.now a.summary.now (lent (goal.at.returns-then-not-is_summary c).Start) (fit (goal.at.returns-then-not-is_summary c).Else-not-sides_fit) c.if-samples-count.false c.if-work-count.false work
     (sym c.is_summary.ensures ∙ c.if-not-is_summary.true) c.clear.ensures
 
-pub answered-requires : goal.answered-requires
-answered-requires c =
-    let a = c.args in record { sides_fit = sides_within a.nx a.ny a.nz (fit (goal.at.answered-requires c).Else-not-sides_fit); samples_len = c.if-samples-count.false; work_len = c.if-work-count.false; summary_value = sym c.is_summary.ensures ∙ c.if-not-is_summary.false }
+pub answered-requires-clause-sides_fit : goal.answered-requires-clause-sides_fit
+answered-requires-clause-sides_fit c = let a = c.args in sides_within a.nx a.ny a.nz (fit (goal.at.answered-requires-clause-sides_fit c).Else-not-sides_fit)
 
 pub returns : goal.returns
 returns c =
