@@ -1,38 +1,38 @@
 -- `shellnumbers::list_numbers` meets its contract: each way out leaves what it must.
 use native.Mathlib.Omega.{arith}
-use Rattle.shellnumbers.proofs.Listing.{ends_refused, passes, ends_crowded, ends_granted}
+use lib.ListN.{length}
+use Rattle.shellnumbers.proofs.Sound.{Passed}
+use Rattle.shellnumbers.proofs.Listing.{passes, ends_crowded, ends_granted}
 use Rattle.shellnumbers.proofs.list_numbers.Goals as goal
+use Rattle.shellnumbers.proofs.list_numbers.Goals.{In_ok-check}
 
-pub returns-then-number-ne0 : goal.returns-then-number-ne0
-returns-then-number-ne0 c =
-    let g = c.args in
-    ends_refused g.points.now g.triangles.now g.marks.now g.numbers.now g.work.now g.records c.refused-number.result c.refused-number.ensures c.if-number-ne0.true
+-- the mesh passed, and the rooms fit it
+ok : (c : In_ok-check) → let g = c.args in Passed g.points.now g.triangles.now g.marks.now (length g.numbers.now) (length g.work.now)
+ok c = let g = c.args in passes g.points.now g.triangles.now g.marks.now g.numbers.now g.work.now g.records c.in_ok-check.ensures
 
 pub unite-requires : goal.unite-requires
 unite-requires c =
-    let g = c.args in
-    let none = c.if-number-ne0.false in
-    let ok = passes g.points.now g.triangles.now g.marks.now g.numbers.now g.work.now g.records c.refused-number.result c.refused-number.ensures none in record { room_len_bound = omega (arith, ok.work_long, ok.mesh.few); v_in_bounds = omega (arith, ok.work_long); v_value = ok.mesh.corners_fit }
+    let h = ok (goal.at.unite-requires c).In_ok-check in
+    record { room_len_bound = omega (arith, h.work_long, h.mesh.few); v_in_bounds = omega (arith, h.work_long); v_value = h.mesh.corners_fit }
 
 pub count-shells-requires : goal.count-shells-requires
 count-shells-requires c =
-    let g = c.args in
-    let none = c.if-number-ne0.false in
-    let ok = passes g.points.now g.triangles.now g.marks.now g.numbers.now g.work.now g.records c.refused-number.result c.refused-number.ensures none in
-    omega (arith, c.unite.ensures.long, ok.work_long)
+    let h = ok (goal.at.count-shells-requires c).In_ok-check in
+    omega (arith, c.unite.ensures.long, h.work_long)
 
 pub returns-then-records-shells : goal.returns-then-records-shells
 returns-then-records-shells c =
     let g = c.args in
-    rw c.crowded.ensures.0 (ends_crowded g.points.now g.triangles.now g.marks.now g.numbers.now g.work.now g.records c.refused-number.result c.refused-number.ensures c.if-number-ne0.false c.unite.new.room _ c.unite.ensures c.count-shells.result c.count-shells.ensures c.crowded.ensures.1 c.if-records-shells.true)
+    ends_crowded g.points.now g.triangles.now g.marks.now g.numbers.now g.work.now g.records c.in_ok-check.ensures
+    c.unite.new.room _ c.unite.ensures c.count-shells.result c.count-shells.ensures c.clear.ensures c.if-records-shells.true
 
 pub number-requires : goal.number-requires
 number-requires c =
-    let g = c.args in
-    let none = c.if-number-ne0.false in
-    let ok = passes g.points.now g.triangles.now g.marks.now g.numbers.now g.work.now g.records c.refused-number.result c.refused-number.ensures none in record { falling = c.unite.ensures.falls; numbers_in_bounds = omega (arith, c.unite.ensures.long, ok.work_long, ok.numbers_long); numbers_len_bound = omega (arith, ok.numbers_long, ok.mesh.few) }
+    let h = ok (goal.at.number-requires c).In_ok-check in
+    record { falling = c.unite.ensures.falls; numbers_in_bounds = omega (arith, c.unite.ensures.long, h.work_long, h.numbers_long); numbers_len_bound = omega (arith, h.numbers_long, h.mesh.few) }
 
 pub returns : goal.returns
 returns c =
     let g = c.args in
-    ends_granted g.points.now g.triangles.now g.marks.now g.numbers.now g.work.now g.records c.refused-number.result c.refused-number.ensures c.if-number-ne0.false c.unite.new.room _ c.unite.ensures c.count-shells.result c.count-shells.ensures c.clear.ensures _ c.number.ensures c.if-records-shells.false
+    ends_granted g.points.now g.triangles.now g.marks.now g.numbers.now g.work.now g.records c.in_ok-check.ensures
+    c.unite.new.room _ c.unite.ensures c.count-shells.result c.count-shells.ensures c.clear-2.ensures _ c.number.ensures c.if-records-shells.false
