@@ -3,6 +3,7 @@
 #![tactic(auto)]
 
 ghost use Rattle.std.specs.Prelude.{◌≡◌, ◌<◌, ◌≤◌, length, get_or, set};
+ghost use Rattle.grid.specs.Refusal.{told, granted_or};
 ghost use Rattle.mesh.specs.Mesh.{triangle_count, triangle_at};
 ghost use Rattle.mesh.specs.Place.{place_of};
 ghost use Rattle.shellnumbers.specs.Numbering.{number_of};
@@ -12,8 +13,9 @@ ghost use Rattle.records.specs.Grown.{none, with_point, with_triangle};
 ghost use Rattle.shelllist.specs.Promise.{Shells};
 ghost use Rattle.shelllist.specs.Filled.{PointTurn, PointsFit, TriangleTurn, TrianglesFit, changed, emptied, points_added, triangles_added, records_filled, FillFits};
 
+use grid::refusal::Refusal;
 use records::{Shell, blank, number_at, number_of, with_point, with_triangle};
-use shellnumbers::{Listed, list_numbers};
+use shellnumbers::list_numbers;
 
 // Makes the first records empty.
 fn empty(records: &mut [Shell], count: usize)
@@ -82,7 +84,7 @@ fn fill(
     add_triangles(records, numbers, points, triangles);
 }
 
-// The shell number of every point and one record a shell, into lent rooms.
+// The shell number of every point and one record a shell, into lent rooms; and how many shells there are.
 pub fn shells(
     points: &[u32],
     triangles: &[u32],
@@ -90,14 +92,11 @@ pub fn shells(
     numbers: &mut [u32],
     records: &mut [Shell],
     work: &mut [u32],
-) -> Listed
-    ensures { let after = left result.number result.shells numbers.new work.new in
+) -> Result<usize, Refusal>
+    ensures { let after = left (told result) (granted_or 0 result) numbers.new work.new in
         Shells points.now triangles.now marks.now numbers.old work.old records.old after records.new }
 {
-    let listed = list_numbers(points, triangles, marks, numbers, work, records.len());
-    if listed.number != 0 {
-        return listed;
-    }
-    fill(records, listed.shells, numbers, points, triangles, marks);
-    listed
+    let shells = list_numbers(points, triangles, marks, numbers, work, records.len())?;
+    fill(records, shells, numbers, points, triangles, marks);
+    Ok(shells)
 }
