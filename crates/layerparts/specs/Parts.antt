@@ -1,14 +1,13 @@
 -- What the parts of a call rely on, and what they leave. The lent layers are those from `below` on, of which the first is handed out.
-use Rattle.std.specs.Prelude.{◌≡◌, Bool, cond, not, ◌&&◌, ◌||◌, ℕ, ◌+◌, ◌*◌, ltb, length}
+use Rattle.std.specs.Prelude.{Bool, cond, not, ◌&&◌, ◌||◌, ℕ, ◌+◌, ◌*◌, ltb, length}
 use mathlib.Core.List.{List, map, flat_map}
 use Rattle.laws.specs.Room.{laid}
 use Rattle.cube.specs.Answer.{most_case_triangles}
 use Rattle.grid.specs.Limits.{most_points, most_triangles}
 use Rattle.grid.specs.Grid.{axes, is_above_grey, mark}
 use Rattle.grid.specs.Point.{place}
-use Rattle.masks.specs.Masks.{row_words, last_samples, AllSet}
 use Rattle.rows.specs.declared.Sides.{Sides}
-use Rattle.rows.specs.Rows.{size_of, words_above, grid_samples}
+use Rattle.rows.specs.Rows.{SidesOf, size_of, words_above, grid_samples}
 use Rattle.edgepoints.specs.EdgePoint.{PointRooms, point_rooms}
 use Rattle.layerstate.specs.declared.Head.{Head}
 use Rattle.layerparts.specs.Layer.{layer_edges, layer_triangles}
@@ -18,13 +17,8 @@ abbrev pub too_many : ℕ → ℕ → ℕ → ℕ → Bool
 too_many most so_far room count = ltb most (so_far + count) || ltb room count
 
 -- the sides are a state's, with the words of their rows
-pub record Framed (head : Head) (first : ℕ) (sides : Sides) : Type 0 where
-  pub nx : sides.nx ≡ head.nx
-  pub ny : sides.ny ≡ head.ny
-  pub nz : sides.nz ≡ head.nz
-  pub words : sides.words ≡ row_words sides.nx
-  pub last : AllSet (last_samples sides.nx) sides.last
-  pub below : sides.below ≡ first
+abbrev pub Framed : Head → ℕ → Sides → Type 0
+Framed head first sides = SidesOf head.nx head.ny head.nz first sides
 
 -- is there room for whatever a layer can have: three points a sample, and five triangles a cube, of which there are fewer than samples
 abbrev pub surely_fits : Head → Sides → ℕ → ℕ → Bool

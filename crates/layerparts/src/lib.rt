@@ -5,6 +5,7 @@
 ghost use Rattle.std.specs.Prelude.{◌≡◌, ◌+◌, ◌*◌, ◌≤◌, ◌<◌, length};
 ghost use Rattle.laws.specs.Room.{laid};
 ghost use Rattle.laws.specs.Mesh.{flat};
+ghost use Rattle.grid.specs.Refusal.{told};
 ghost use Rattle.grid.specs.Work.{SidesFit, lent_samples};
 ghost use Rattle.rows.specs.Rows.{Ready, size_of, words_above};
 ghost use Rattle.edgepoints.specs.EdgePoint.{point_rooms, RoomsFor};
@@ -16,6 +17,7 @@ pub mod counting;
 
 use cube::MOST_CASE_TRIANGLES;
 use grid::limits::{MOST_POINTS, MOST_TRIANGLES};
+use grid::refusal::Refusal;
 use layerstate::Head;
 use pointplaces::places::place_layer;
 use rows::Sides;
@@ -28,28 +30,14 @@ pub fn frame(head: Head, below: usize) -> Sides
     requires { SidesFit head.nx head.ny head.nz }
     ensures { Framed head below result }
 {
-    let nx = head.nx as usize;
-    Sides {
-        nx,
-        ny: head.ny as usize,
-        nz: head.nz as usize,
-        words: masks::row_words(nx),
-        last: masks::last_mask(nx),
-        below,
-    }
+    Sides::new(head.nx as usize, head.ny as usize, head.nz as usize, below)
 }
 
 // Are there more in the run than the limit, or more in this call than the room holds?
 pub fn exceeds(so_far: u32, count: u32, most: u32, room: usize) -> bool
     ensures { result ≡ too_many most so_far room count }
 {
-    if most < so_far {
-        return true;
-    }
-    if most - so_far < count {
-        return true;
-    }
-    room < count as usize
+    most < so_far || most - so_far < count || room < count as usize
 }
 
 // Is there room for whatever a layer can have: three points a sample, and five triangles a cube, of which there are fewer than samples?
@@ -58,37 +46,37 @@ fn fits_surely(head: Head, sides: Sides, room: usize, triangle_room: usize) -> b
     ensures { result ≡ surely_fits head sides room triangle_room }
 {
     let each = (sides.nx * sides.ny) as u32;
-    if exceeds(head.points, 3 * each, MOST_POINTS, room) {
-        return false;
-    }
-    !exceeds(
-        head.triangles,
-        CASE_TRIANGLES * each,
-        MOST_TRIANGLES,
-        triangle_room,
-    )
+    let triangles = CASE_TRIANGLES * each;
+    !exceeds(head.points, 3 * each, MOST_POINTS, room)
+        && !exceeds(head.triangles, triangles, MOST_TRIANGLES, triangle_room)
 }
 
-// 4 where the points of the first lent layer are too many, 5 where the triangles over it are, else 0. They are counted only where they could be too many.
-pub fn refusal(head: Head, sides: Sides, masks: &[u64], room: usize, triangle_room: usize) -> u32
+// Are the points of the first lent layer too many, or the triangles over it? They are counted only where they could be too many.
+pub fn check_fits(
+    head: Head,
+    sides: Sides,
+    masks: &[u64],
+    room: usize,
+    triangle_room: usize,
+) -> Result<(), Refusal>
     requires ready { Ready sides sides.below masks.now }
     requires below_bound { sides.below + 1 < sides.nz }
-    ensures { result ≡ refusal_for head room triangle_room (length (word_edges sides masks.now)) (triangle_count sides masks.now) }
+    ensures { told result ≡ refusal_for head room triangle_room (length (word_edges sides masks.now)) (triangle_count sides masks.now) }
 {
     if fits_surely(head, sides, room, triangle_room) {
-        return 0;
+        return Ok(());
     }
     let points = counting::count_points(sides, masks);
     if exceeds(head.points, points, MOST_POINTS, room) {
-        return 4;
+        return Err(Refusal::Points);
     }
     let counts = cube::counts();
     let none_found = [0u64; 0];
     let made = cuberows::count_layer(&counts, sides, sides.below, masks, &none_found);
     if exceeds(head.triangles, made, MOST_TRIANGLES, triangle_room) {
-        return 5;
+        return Err(Refusal::Triangles);
     }
-    0
+    Ok(())
 }
 
 // The points of the first lent layer, to the front of their rooms. Answers how many they are.

@@ -63,10 +63,7 @@ pub fn read_head(state: &[u32]) -> Head
 pub fn is_state(head: Head) -> bool
     ensures { result ≡ (sides_fit head.nx head.ny head.nz && leb head.grey most_number) }
 {
-    if grid::sides_fit(head.nx, head.ny, head.nz) {
-        return head.grey as u64 <= MOST_NUMBER;
-    }
-    false
+    grid::sides_fit(head.nx, head.ny, head.nz) && head.grey as u64 <= MOST_NUMBER
 }
 
 // Is the run closed?
@@ -81,23 +78,14 @@ pub fn is_amiss(head: Head, samples: usize) -> bool
     requires { SidesFit head.nx head.ny head.nz }
     ensures { result ≡ (not (eqb samples (head.nx * head.ny)) || (leb head.nz head.taken || not (eqb head.closed 0))) }
 {
-    if samples != (head.nx * head.ny) as usize {
-        return true;
-    }
-    if head.nz <= head.taken {
-        return true;
-    }
-    is_closed(head)
+    samples != (head.nx * head.ny) as usize || head.nz <= head.taken || is_closed(head)
 }
 
 // Is it too early to close the run, or is it closed?
 pub fn is_early(head: Head) -> bool
     ensures { result ≡ (ltb head.taken head.nz || not (eqb head.closed 0)) }
 {
-    if head.taken < head.nz {
-        return true;
-    }
-    is_closed(head)
+    head.taken < head.nz || is_closed(head)
 }
 
 // The layer in the kept one's place.
@@ -105,9 +93,8 @@ fn keep(layer: &[u16], state: &mut [u32])
     requires { kept_at + length layer.now ≤ length state.old }
     ensures { state.new ≡ sets state.old kept_at layer.now }
 {
-    let many = layer.len();
-    for i in 0..many {
-        state[KEPT_AT + i] = layer[i] as u32;
+    for (i, sample) in layer.iter().enumerate() {
+        state[KEPT_AT + i] = *sample as u32;
     }
 }
 
@@ -124,6 +111,7 @@ pub fn write_opened(nx: u32, ny: u32, nz: u32, grey: u16, state: &mut [u32])
 }
 
 // The room after a granted layer that handed out so many points and triangles.
+#[tactic(auto, unfolding(crate::specs::State::layered_room))]
 pub fn write_layered(layer: &[u16], points: u32, triangles: u32, state: &mut [u32])
     requires state_len { (length state.old ≡ state_length) × (length layer.now ≤ most_layer) }
     requires taken_at_bound { get_or state.old taken_at 0 + 1 < 2 ^ 32 }
@@ -141,6 +129,7 @@ pub fn write_layered(layer: &[u16], points: u32, triangles: u32, state: &mut [u3
 }
 
 // The room after a granted closing that handed out so many points.
+#[tactic(auto, unfolding(crate::specs::State::closed_room))]
 pub fn write_closed(points: u32, state: &mut [u32])
     requires state_len { length state.old ≡ state_length }
     requires points_bound { get_or state.old points_at 0 + points < 2 ^ 32 }

@@ -48,15 +48,6 @@ unfolding word_edges
 overflow_cast-result c =
     omega (arith, counted (goal.at.overflow_cast-result c).After-place_layer, points_most (size_of c.args.sides) (words_above c.args.sides c.args.masks.now) c.args.sides.below, layer_most c.requires.given.ready.fit)
 
-pub shape_of-points : goal.shape_of-points
-shape_of-points c = c.place_layer.auto.points
-
-pub shape_of-edges : goal.shape_of-edges
-shape_of-edges c = c.place_layer.auto.edges
-
-pub shape_of-marks : goal.shape_of-marks
-shape_of-marks c = c.place_layer.auto.marks
-
 rooms_are : (r : PointRooms) {ps es ms : List ℕ} → r.points ≡ ps → r.edges ≡ es → r.marks ≡ ms → r ≡ point_rooms ps es ms
 rooms_are r put listed marked i = point_rooms (put i) (listed i) (marked i)
 

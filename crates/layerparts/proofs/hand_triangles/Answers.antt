@@ -11,7 +11,6 @@ use Rattle.laws.proofs.Writes.{sets_front}
 use Rattle.rows.specs.Rows.{size_of, words_above}
 use Rattle.cuberows.proofs.Found.{none_owed}
 use Rattle.triangles.specs.Names.{layer_names}
-use Rattle.triangles.proofs.Names.{written_length}
 use Rattle.triangles.proofs.Named.{edge_nameable}
 use Rattle.layerstate.proofs.Kept.{layer_most}
 use Rattle.layerparts.specs.Layer.{layer_triangles}
@@ -20,9 +19,6 @@ use Rattle.layerparts.proofs.Counted.{triangles_most}
 use Rattle.layerparts.proofs.Said.{layer_numbers}
 use Rattle.layerparts.proofs.hand_triangles.Goals as goal
 use Rattle.layerparts.proofs.hand_triangles.Goals.{After-edge_offsets-offsets, After-slice_known-2-1}
-
-pub edge_offsets-offsets-requires : goal.edge_offsets-offsets-requires
-edge_offsets-offsets-requires c = let fit = c.requires.ready.fit in (fit.most_x, fit.most_y)
 
 -- the start, and what is written: the triangles' grid edges
 
@@ -57,28 +53,17 @@ write_layer-end-requires c =
 -- where the writing ended
 end : (c : After-slice_known-2-1)
     → let a = c.args in
-    c.write_layer-end.result ≡ 3 * triangle_count a.sides a.masks.now
-unfolding triangle_count
-end c =
-    omega (
-      arith,
-      c.write_layer-end.ensures.end,
-      (let it : let a = c.args in
-          length (layer_names c.edge_offsets-offsets.result [] a.sides a.masks.now a.sides.below) ≡ 3 * triangle_count a.sides a.masks.now
-          = let a = c.args in ap length ((let it : let a = c.args in
-          layer_names c.edge_offsets-offsets.result [] a.sides a.masks.now a.sides.below ≡ flat (layer_triangles (size_of a.sides) (words_above a.sides a.masks.now) a.sides.below) = let a = c.args in layer_numbers a.sides a.masks.now c.edge_offsets-offsets.result c.edge_offsets-offsets.ensures a.sides.below in it)) ∙ length_corners (layer_triangles (size_of a.sides) (words_above a.sides a.masks.now) a.sides.below) in it),
-    )
+    length (layer_names c.edge_offsets-offsets.result [] a.sides a.masks.now a.sides.below) ≡ 3 * triangle_count a.sides a.masks.now
+    → c.write_layer-end.result ≡ 3 * triangle_count a.sides a.masks.now
+end c long = omega (arith, c.write_layer-end.ensures.end, long)
 
 pub overflow_cast-result : goal.overflow_cast-result
 unfolding triangle_count
 overflow_cast-result c =
     let a = c.args in
-    omega (arith, end (goal.at.overflow_cast-result c).After-slice_known-2-1, triangles_most (size_of a.sides) (words_above a.sides a.masks.now) a.sides.below, layer_most c.requires.ready.fit)
-
-pub shape_of-triangles : goal.shape_of-triangles
-shape_of-triangles c = written_length c.write_layer-end.ensures
+    omega (arith, end (goal.at.overflow_cast-result c).After-slice_known-2-1 (long (goal.at.overflow_cast-result c).After-edge_offsets-offsets), triangles_most (size_of a.sides) (words_above a.sides a.masks.now) a.sides.below, layer_most c.requires.ready.fit)
 
 pub returns : goal.returns
 returns c =
     let a = c.args in
-    let room = c.args.triangles.now in record { counted = omega (arith, end (goal.at.returns c).After-slice_known-2-1); laid = c.write_layer-end.ensures.room ∙ sets_front room _ (omega (arith, long (goal.at.returns c).After-edge_offsets-offsets, c.requires.masks_in_bounds)) ∙ ap (λ xs. laid xs room) (numbers (goal.at.returns c).After-edge_offsets-offsets) }
+    let room = c.args.triangles.now in record { counted = omega (arith, end (goal.at.returns c).After-slice_known-2-1 (long (goal.at.returns c).After-edge_offsets-offsets)); laid = c.write_layer-end.ensures.room ∙ sets_front room _ (omega (arith, long (goal.at.returns c).After-edge_offsets-offsets, c.requires.masks_in_bounds)) ∙ ap (λ xs. laid xs room) (numbers (goal.at.returns c).After-edge_offsets-offsets) }

@@ -1,13 +1,9 @@
 -- `layerstate::keep` meets its contract. The samples passed are kept.
 use mathlib.Core.Path.{◌≡◌}
-use Prim.Native.Nat.{◌-◌, ◌≤◌}
 use lib.ListN.{length, take}
 use lib.Seq.{sets}
 use Rattle.layerstate.specs.State.{kept_at}
 use Rattle.layerstate.proofs.keep.Given as goal
 
 abbrev pub invariant-loop-i : goal.invariant-loop-i
-invariant-loop-i l = (length l.state ≡ length l.initial.state) × (l.i ≤ l.many) × (l.state ≡ sets l.initial.state kept_at (take l.i l.layer))
-
-abbrev pub decreases-loop-i : goal.decreases-loop-i
-decreases-loop-i l = l.many - l.i
+invariant-loop-i l = (length l.state ≡ length l.initial.state) × (l.state ≡ sets l.initial.state kept_at (take l.i l.layer))

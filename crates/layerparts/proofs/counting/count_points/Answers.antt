@@ -8,17 +8,13 @@ use Rattle.laws.proofs.Keep.{keep_no, keep_most}
 use Rattle.grid.specs.Limits.{most_edges}
 use Rattle.grid.proofs.Sides.{samples_most}
 use Rattle.rows.specs.Rows.{cut, own_samples, layer_first}
-use Rattle.rows.proofs.Stretches.{layers_rise, stands_first, stands_next, layer_end, stretch_end, word_there, stretch_addable}
+use Rattle.rows.proofs.Stretches.{layers_rise, stands_first, stands_next, layer_end, stretch_end, word_there}
 use Rattle.pointplaces.specs.Places.{crossings}
 use Rattle.pointplaces.proofs.Placing.{crossings_on}
 use Rattle.layerparts.specs.Layer.{layer_edges}
 use Rattle.layerparts.specs.Parts.{word_edges}
 use Rattle.layerparts.proofs.counting.count_points.Goals as goal
 use Rattle.layerparts.proofs.counting.count_points.Goals.{After-count_stretch-sum}
-
--- src/counting.rt:30:9
-pub first-at-requires : goal.first-at-requires
-first-at-requires c = let pre = c.requires in record { sides_fit = pre.ready.fit; words_value = pre.ready.words; below_le_z = (pre.ready.from, pre.below_lt_nz) }
 
 -- src/counting.rt:32:5
 pub loop-at-init : goal.loop-at-init
@@ -30,10 +26,6 @@ loop-at-init c =
       omega arith,
       sym (ap length (keep_no first first (cut a.sides a.masks.now) (λ i l. absurd (omega arith)))),
     )
-
--- src/counting.rt:33:16
-pub count_stretch-sum-requires : goal.count_stretch-sum-requires
-count_stretch-sum-requires c = record { ready = c.requires.ready; stands = c.loop-at.invariant.0; y_lt_ny = c.loop-at-test.true; z_lt_nz = c.requires.below_lt_nz }
 
 -- src/counting.rt:33:9
 -- past a stretch its points are counted too, and all of them are few
@@ -63,11 +55,6 @@ passed c =
 
 pub overflow_add-sum : goal.overflow_add-sum
 overflow_add-sum c = omega (arith, passed (goal.at.overflow_add-sum c).After-count_stretch-sum)
-
--- src/counting.rt:34:9
-pub next-at-requires : goal.next-at-requires
-next-at-requires c =
-    stretch_addable c.args.sides c.args.sides.below c.loop-at.at c.loop-at.invariant.0 c.loop-at-test.true c.requires.below_lt_nz c.requires.ready.fit
 
 -- src/counting.rt:32:5
 pub loop-at-smaller : goal.loop-at-smaller

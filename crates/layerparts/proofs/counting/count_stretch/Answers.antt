@@ -28,13 +28,6 @@ counted c sx sy sz =
     let is = stretch_counted a.sides a.masks.now a.at.s own few c.crossed_at-crossed.result sx sy sz c.crossed_at-crossed.ensures in
     (is, omega (arith, is, few, keep_most (3 * a.at.s) (3 * (a.at.s + own)) (cut a.sides a.masks.now)))
 
-pub overflow_add-result : goal.overflow_add-result
-overflow_add-result c = omega (arith, counted (goal.at.overflow_add-result c).After-struct_known-1 (omega (arith, c.struct_known-2-1.given)) (omega (arith, c.struct_known-2-1.given)) (omega (arith, c.struct_known-2-1.given)))
-
--- src/counting.rt:20:5
-pub overflow_add-result-2 : goal.overflow_add-result-2
-overflow_add-result-2 c = omega (arith, counted (goal.at.overflow_add-result-2 c).After-struct_known-1 (omega (arith, c.struct_known-3-1.given)) (omega (arith, c.struct_known-3-1.given)) (omega (arith, c.struct_known-3-1.given)))
-
 -- src/counting.rt:12:1
 pub returns : goal.returns
 returns c = (counted (goal.at.returns c).After-struct_known-1 (omega (arith, c.struct_known-3-1.given)) (omega (arith, c.struct_known-3-1.given)) (omega (arith, c.struct_known-3-1.given))).0
