@@ -2,9 +2,8 @@
 use Rattle.std.specs.Prelude.{◌≡◌, List, ℕ, Result, Ok, Err}
 use Rattle.laws.specs.Room.{laid}
 use Rattle.grid.specs.declared.refusal.Refusal.{Refusal}
-use Rattle.grid.specs.Refusal.{number_of}
+use Rattle.grid.specs.Refusal.{number_of, grid_line}
 use Rattle.reading.specs.Reading.{GotRows, malformed, rows}
-use Rattle.reading.specs.Told.{line_of}
 use Rattle.gridtext.specs.Grid.{Parsed, Outcome, refused_answer, grant, read_grid}
 use Rattle.gridtext.specs.declared.Head.{Head}
 
@@ -16,7 +15,7 @@ samples_filled (rows ns) room = laid ns room
 -- what is answered, in numbers, and the room
 abbrev pub answered : Result Head Refusal → Parsed
 answered (Ok h) = grant h
-answered (Err e) = refused_answer (number_of e) (line_of e)
+answered (Err e) = refused_answer (number_of e) (grid_line e)
 
 abbrev pub left : Result Head Refusal → List ℕ → Outcome
 left r samples = record { answer = answered r; samples = samples }

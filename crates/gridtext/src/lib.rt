@@ -2,10 +2,9 @@
 
 #![tactic(auto)]
 
-ghost use Rattle.std.specs.Prelude.{◌≡◌, ◌*◌, ◌≤◌, length, take, drop};
+ghost use Rattle.std.specs.Prelude.{◌≡◌, ◌*◌, ◌≤◌, IfErr, length, take, drop};
 ghost use Rattle.grid.specs.Limits.{most_small, most_number};
-ghost use Rattle.grid.specs.Refusal.{told};
-ghost use Rattle.reading.specs.Told.{told_line};
+ghost use Rattle.grid.specs.Refusal.{told, grid_line};
 ghost use Rattle.reading.specs.Reading.{got, read_rows};
 ghost use Rattle.reading.specs.Answers.{answered, answered_rows};
 ghost use Rattle.gridtext.specs.Grid.{head_of, read_head, head_number, with_head};
@@ -46,7 +45,7 @@ impl From<[u16; 6]> for Head {
 // The checks of line 1's numbers, in order. The sides are within their limit before they are multiplied.
 #[tactic(auto, unfolding(crate::specs::Grid::head_number, crate::specs::Grid::smoothing_fits))]
 fn check_head(head: Head) -> Result<(), Refusal>
-    ensures { (told result ≡ head_number head) × (told_line result ≡ 0) }
+    ensures { (told result ≡ head_number head) × IfErr result (λ e. grid_line e ≡ 0) }
 {
     if !grid::sides_fit(head.nx, head.ny, head.nz) {
         return Err(Refusal::Side);

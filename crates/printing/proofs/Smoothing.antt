@@ -1,5 +1,5 @@
 -- The smoothing of a small mesh is granted, and what it leaves is what is defined.
-use mathlib.Core.Path.{◌≡◌}
+use mathlib.Core.Path.{◌≡◌, refl}
 use mathlib.Core.List.{List}
 use Prim.Native.Nat.{ℕ, ◌+◌, ◌*◌, ◌≤◌}
 use lib.ListN.{length}
@@ -26,3 +26,7 @@ module _ (points triangles marks : List ℕ) (k w : ℕ) (second work : List ℕ
   pub smooth_granted : (smoothed points triangles marks k w second work).second ≡ rounds (triangles_of triangles) marks w k points
   unfolding smoothed
   smooth_granted = rw number_none
+
+  pub none_refused : (smoothed points triangles marks k w second work).number ≡ 0
+  unfolding smoothed
+  none_refused = rw number_none refl

@@ -32,13 +32,14 @@ fn write_records(
 {
     let mut records = [records::blank(); MOST_SMALL_POINTS];
     let listed = shells::shells(points, triangles, marks, numbers, &mut records, work);
+    let shells = listed.unwrap_or(0);
     meshtext::write_mesh(
         points,
         edges,
         marks,
         triangles,
         &records,
-        listed.shells,
+        shells,
         output,
     )
 }
@@ -98,6 +99,7 @@ pub fn write_smoothed(
         weight,
         &mut smoothed[..3 * v],
         &mut work[..6 * t + 5 * v + 1],
-    );
+    )
+    .unwrap();
     write_listed(&smoothed[..3 * v], edges, marks, triangles, output)
 }

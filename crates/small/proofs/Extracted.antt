@@ -18,45 +18,45 @@ use Rattle.closed.specs.Left.{mesh_left, edges_left}
 use Rattle.closed.proofs.Cubes.{cubes_owed}
 use Rattle.closed.proofs.Granted.{Granted, left_granted}
 use Rattle.closed.proofs.Passes.{extract_passes}
-use Rattle.gridtext.specs.declared.Parsed.{Parsed}
+use Rattle.gridtext.specs.declared.Head.{Head}
 use Rattle.gridtext.proofs.Checks.{passed}
 use Rattle.printing.specs.Sizes.{most_small_points, most_small_triangles, most_output}
 use Rattle.small.specs.Answer.{grid_edges, extracted_mesh}
 use Rattle.printing.specs.SmallMesh.{mesh_of, SmallMesh}
-use Rattle.small.specs.Promise.{head_in, SmallGrid}
+use Rattle.small.specs.Promise.{SmallGrid}
 use Rattle.small.proofs.Steps.{RoomsHold, points_few, triangles_few, extract_granted}
 
-module _ (p : Parsed) (samples : List ℕ) (small : SmallGrid p samples) where
-  pub smoothing_fits_lem : (p.rounds ≤ most_rounds) × (p.weight ≤ most_weight)
+module _ (h : Head) (samples : List ℕ) (small : SmallGrid p samples) where
+  pub smoothing_fits_lem : (h.rounds ≤ most_rounds) × (h.weight ≤ most_weight)
   smoothing_fits_lem =
-      let b = both (leb p.rounds most_rounds) (leb p.weight most_weight) (passed (head_in p) small.0).2 in
-      (leb-true p.rounds most_rounds b.0, leb-true p.weight most_weight b.1)
+      let b = both (leb h.rounds most_rounds) (leb h.weight most_weight) (passed h small.0).2 in
+      (leb-true h.rounds most_rounds b.0, leb-true h.weight most_weight b.1)
 
-  module _ (before : Rooms) (after : Outcome) (hold : RoomsHold (length samples) before) (extracts : Extracts cubes p.nx p.ny p.nz p.grey samples before after) where
+  module _ (before : Rooms) (after : Outcome) (hold : RoomsHold (length samples) before) (extracts : Extracts cubes h.nx h.ny h.nz h.grey samples before after) where
     abbrev points : List ℕ
-    points = point_list cubes (size p.nx p.ny p.nz) p.grey samples before
+    points = point_list cubes (size h.nx h.ny h.nz) h.grey samples before
 
-    left_is : after ≡ granted cubes (size p.nx p.ny p.nz) p.grey samples before
+    left_is : after ≡ granted cubes (size h.nx h.ny h.nz) h.grey samples before
     left_is =
-        let c = passed (head_in p) small.0 in
-        extracts ∙ extract_granted p.nx p.ny p.nz p.grey samples before c.0 c.1 small.1 hold
+        let c = passed h small.0 in
+        extracts ∙ extract_granted h.nx h.ny h.nz h.grey samples before c.0 c.1 small.1 hold
 
     none : after.number ≡ 0
     unfolding granted
     none = ap (λ o. o.number) left_is
 
-    left : Granted cubes p.nx p.ny p.nz p.grey samples before after
-    left = left_granted cubes p.nx p.ny p.nz p.grey samples before after extracts none
+    left : Granted cubes h.nx h.ny h.nz h.grey samples before after
+    left = left_granted cubes h.nx h.ny h.nz h.grey samples before after extracts none
 
     few_left : length points ≤ most_small_points
     few_left =
-        let c = passed (head_in p) small.0 in
-        points_few p.nx p.ny p.nz p.grey samples before c.0 c.1 small.1 hold
+        let c = passed h small.0 in
+        points_few h.nx h.ny h.nz h.grey samples before c.0 c.1 small.1 hold
 
-    few_made : length (triangle_list cubes (size p.nx p.ny p.nz) p.grey samples before) ≤ most_small_triangles
+    few_made : length (triangle_list cubes (size h.nx h.ny h.nz) h.grey samples before) ≤ most_small_triangles
     few_made =
-        let c = passed (head_in p) small.0 in
-        triangles_few p.nx p.ny p.nz p.grey samples before c.0 c.1 small.1 hold
+        let c = passed h small.0 in
+        triangles_few h.nx h.ny h.nz h.grey samples before c.0 c.1 small.1 hold
 
     -- the counts
     pub points_counted : (after.point_count ≤ most_small_points) × (length (edges_left after) ≡ after.point_count) × (length (mesh_left after).marks ≡ after.point_count)
@@ -65,7 +65,7 @@ module _ (p : Parsed) (samples : List ℕ) (small : SmallGrid p samples) where
         let e = ap (λ o. o.point_count) left_is in (
           omega (arith, e, few_left),
           ap length left.edges_are ∙ sym e,
-          ap length left.marks_are ∙ (length-map points (mark axes (size p.nx p.ny p.nz)) ∙ sym e),
+          ap length left.marks_are ∙ (length-map points (mark axes (size h.nx h.ny h.nz)) ∙ sym e),
         )
 
     pub triangles_counted : after.triangle_count ≤ most_small_triangles
@@ -76,21 +76,21 @@ module _ (p : Parsed) (samples : List ℕ) (small : SmallGrid p samples) where
     small_mesh output room =
         let n = points_counted in
         record {
-          passes = extract_passes cubes cubes_owed p.nx p.ny p.nz p.grey samples before after extracts none;
+          passes = extract_passes cubes cubes_owed h.nx h.ny h.nz h.grey samples before after extracts none;
           edged = n.1 ∙ sym n.2;
           few_points = omega (arith, n.0, n.2);
-          few_triangles = omega (arith, ap length left.triangles_are, length_corners (triangle_list cubes (size p.nx p.ny p.nz) p.grey samples before), few_made);
+          few_triangles = omega (arith, ap length left.triangles_are, length_corners (triangle_list cubes (size h.nx h.ny h.nz) h.grey samples before), few_made);
           room = room;
         }
 
     -- what was left is what is defined
-    pub edges_are : edges_left after ≡ grid_edges (head_in p) samples
+    pub edges_are : edges_left after ≡ grid_edges h samples
     unfolding grid_edges
     edges_are = left.edges_are
 
-    pub mesh_is : mesh_left after ≡ extracted_mesh (head_in p) samples
+    pub mesh_is : mesh_left after ≡ extracted_mesh h samples
     unfolding extracted_mesh grid_edges
     mesh_is =
         ap (λ x. mesh_of x (mesh_left after).triangles (mesh_left after).marks) left.places_are
-        ∙ (ap (λ x. mesh_of (extracted_mesh (head_in p) samples).points x (mesh_left after).marks) left.triangles_are
-        ∙ ap (λ x. mesh_of (extracted_mesh (head_in p) samples).points (extracted_mesh (head_in p) samples).triangles x) left.marks_are)
+        ∙ (ap (λ x. mesh_of (extracted_mesh h samples).points x (mesh_left after).marks) left.triangles_are
+        ∙ ap (λ x. mesh_of (extracted_mesh h samples).points (extracted_mesh h samples).triangles x) left.marks_are)

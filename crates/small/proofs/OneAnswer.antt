@@ -18,7 +18,7 @@ use Rattle.gridtext.proofs.Checks.{passed}
 use Rattle.gridtext.proofs.GridTexts.{grid_read, grid_taken}
 use Rattle.small.specs.Answer.{smoothed_mesh, grid_edges, Answers, printed, refused}
 use Rattle.printing.specs.Prints.{Prints}
-use Rattle.small.specs.Promise.{head_in}
+use Rattle.small.proofs.Read.{head_in}
 
 -- a mesh has one text: its shells are numbered in one way
 pub one_print : (m : Mesh) (edges a b : List ℕ) → Prints m edges a → Prints m edges b → a ≡ b

@@ -3,52 +3,61 @@ use mathlib.Core.Path.{◌≡◌, ap, ap₂, sym, ◌∙◌, subst}
 use mathlib.Core.List.{List}
 use Prim.Native.Nat.{ℕ, ◌*◌, ◌≤◌}
 use lib.ListN.{length, take, replicate}
+use Rattle.std.specs.Prelude.{Ok, Err}
 use Rattle.laws.proofs.Rooms.{laid_read}
 use Rattle.grid.specs.Limits.{most_small}
+use Rattle.grid.specs.declared.refusal.Refusal.{Refusal}
+use Rattle.grid.specs.Refusal.{number_of, grid_line}
+use Rattle.grid.proofs.Refused.{never_0}
 use Rattle.writing.specs.Writing.{refusal_text}
-use Rattle.gridtext.specs.Grid.{samples_of, head_number, granted, read_grid}
+use Rattle.gridtext.specs.Grid.{Parsed, samples_of, head_number, granted, read_grid}
 use Rattle.gridtext.specs.Promise.{left}
-use Rattle.gridtext.specs.declared.Parsed.{Parsed}
+use Rattle.gridtext.specs.declared.Head.{Head}
 use Rattle.gridtext.proofs.Checks.{passed, rows_few}
 use Rattle.gridtext.proofs.GridTexts.{Taken, grid_taken}
 use Rattle.small.specs.Answer.{smoothed_mesh, grid_edges, parsed, Answers, printed, refused}
 use Rattle.printing.specs.Prints.{Prints}
-use Rattle.small.specs.Promise.{head_in, SmallGrid}
+use Rattle.small.specs.Promise.{SmallGrid}
 
-module _ (input : List ℕ) (p : Parsed) (exit : List ℕ) (e : left p exit ≡ read_grid input (replicate most_small 0)) where
-  pub refusal_answers : (p.number ≡ 0 → ⊥) → (text : List ℕ) → text ≡ refusal_text p.number p.line → Answers input text
-  refusal_answers n text t =
-      let q : p ≡ parsed input = ap (λ o. o.answer) e in
-      refused (λ z. n (ap (λ a. a.number) q ∙ z)) (t ∙ ap (λ a. refusal_text a.number a.line) q)
+abbrev room : List ℕ
+room = replicate most_small 0
 
-  module _ (none : p.number ≡ 0) where
-    taken : Taken input (replicate most_small 0) (read_grid input (replicate most_small 0))
-    taken = grid_taken input (replicate most_small 0) (sym (ap (λ o. o.answer.number) e) ∙ none)
+-- line 1's numbers, as they stand in an answer
+abbrev pub head_in : Parsed → Head
+head_in p = record { nx = p.nx; ny = p.ny; nz = p.nz; grey = p.grey; rounds = p.rounds; weight = p.weight }
 
-    head_is : head_in p ≡ taken.head
-    unfolding granted
-    head_is = ap (λ o. head_in o.answer) (e ∙ taken.answer)
+pub refusal_answers : (input : List ℕ) (x : Refusal) (exit : List ℕ) → left (Err x) exit ≡ read_grid input room → (text : List ℕ) → text ≡ refusal_text (number_of x) (grid_line x) → Answers input text
+refusal_answers input x exit e text t =
+    refused (λ z. never_0 x (ap (λ o. o.answer.number) e ∙ z)) (t ∙ ap (λ o. refusal_text o.answer.number o.answer.line) e)
 
-    samples_are : take (samples_of (head_in p)) exit ≡ taken.samples
-    unfolding granted
-    samples_are =
-        ap₂ (λ h xs. take (samples_of h) xs) head_is (ap (λ o. o.samples) (e ∙ taken.answer))
-        ∙ laid_read taken.samples (replicate most_small 0) (samples_of taken.head) taken.small.whole
+module _ (input : List ℕ) (h : Head) (exit : List ℕ) (e : left (Ok h) exit ≡ read_grid input room) where
+  taken : Taken input room (read_grid input room)
+  taken = grid_taken input room (sym (ap (λ o. o.answer.number) e))
 
-    checked : head_number (head_in p) ≡ 0
-    checked = ap head_number head_is ∙ taken.small.checked
+  head_is : h ≡ taken.head
+  unfolding granted
+  head_is = ap (λ o. head_in o.answer) (e ∙ taken.answer)
 
-    pub samples_few : samples_of (head_in p) ≤ most_small
-    samples_few = (passed (head_in p) checked).1
+  samples_are : take (samples_of h) exit ≡ taken.samples
+  unfolding granted
+  samples_are =
+      ap₂ (λ k xs. take (samples_of k) xs) head_is (ap (λ o. o.samples) (e ∙ taken.answer))
+      ∙ laid_read taken.samples room (samples_of taken.head) taken.small.whole
 
-    pub rows_read : p.ny * p.nz ≤ most_small
-    rows_read = rows_few (head_in p) checked
+  checked : head_number h ≡ 0
+  checked = ap head_number head_is ∙ taken.small.checked
 
-    pub grid_small : SmallGrid p (take (samples_of (head_in p)) exit)
-    grid_small = (checked, ap length samples_are ∙ (taken.small.whole ∙ ap samples_of (sym head_is)))
+  pub samples_few : samples_of h ≤ most_small
+  samples_few = (passed h checked).1
 
-    pub grid_answers : (text : List ℕ) → Prints (smoothed_mesh (head_in p) (take (samples_of (head_in p)) exit)) (grid_edges (head_in p) (take (samples_of (head_in p)) exit)) text → Answers input text
-    grid_answers text q =
-        printed taken.head taken.samples taken.small taken.text
-        (subst (λ h. Prints (smoothed_mesh h taken.samples) (grid_edges h taken.samples) text) head_is
-        (subst (λ s. Prints (smoothed_mesh (head_in p) s) (grid_edges (head_in p) s) text) samples_are q))
+  pub rows_read : h.ny * h.nz ≤ most_small
+  rows_read = rows_few h checked
+
+  pub grid_small : SmallGrid h (take (samples_of h) exit)
+  grid_small = (checked, ap length samples_are ∙ (taken.small.whole ∙ ap samples_of (sym head_is)))
+
+  pub grid_answers : (text : List ℕ) → Prints (smoothed_mesh h (take (samples_of h) exit)) (grid_edges h (take (samples_of h) exit)) text → Answers input text
+  grid_answers text q =
+      printed taken.head taken.samples taken.small taken.text
+      (subst (λ k. Prints (smoothed_mesh k taken.samples) (grid_edges k taken.samples) text) head_is
+      (subst (λ s. Prints (smoothed_mesh h s) (grid_edges h s) text) samples_are q))

@@ -10,10 +10,9 @@ use Rattle.grid.specs.Mesh.{mesh}
 use Rattle.closed.specs.Left.{Mesh}
 use Rattle.writing.specs.Writing.{refusal_text}
 use Rattle.printing.specs.Prints.{after_rounds, Prints}
-use Rattle.gridtext.specs.Grid.{read_grid}
+use Rattle.gridtext.specs.Grid.{Parsed, read_grid}
 use Rattle.gridtext.specs.GridText.{Small, head_size, grid_text}
 use Rattle.gridtext.specs.declared.Head.{Head}
-use Rattle.gridtext.specs.declared.Parsed.{Parsed}
 
 module _ (h : Head) (samples : List ℕ) where
   -- extract

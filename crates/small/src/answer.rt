@@ -3,29 +3,30 @@ ghost use Rattle.std.specs.Prelude.{◌≤◌, length, take};
 ghost use Rattle.printing.specs.Sizes.{most_output};
 ghost use Rattle.printing.specs.Prints.{Prints};
 ghost use Rattle.small.specs.Answer.{grid_edges, smoothed_mesh, Answers};
-ghost use Rattle.small.specs.Promise.{head_in, SmallGrid};
+ghost use Rattle.small.specs.Promise.{SmallGrid};
 
 use grid::limits::MOST_SMALL;
-use gridtext::Parsed;
-use printing::{write_smoothed, zeros};
+use gridtext::Head;
+use printing::write_smoothed;
+use printing::zeros;
+use printing::zeros::{MOST_SMALL_COORDINATES, MOST_SMALL_CORNERS, MOST_SMALL_POINTS};
 
 // Extracts the mesh of a grid and writes its text.
-fn write_grid(grid: Parsed, samples: &[u16], output: &mut [u8]) -> usize
-    requires { SmallGrid grid samples.now × (most_output ≤ length output.old) }
+fn write_grid(head: Head, samples: &[u16], output: &mut [u8]) -> usize
+    requires { SmallGrid head samples.now × (most_output ≤ length output.old) }
     ensures inside { result ≤ length output.new }
-    ensures text { let head = head_in grid in
-        Prints (smoothed_mesh head samples.now) (grid_edges head samples.now) (take result output.new) }
+    ensures text { Prints (smoothed_mesh head samples.now) (grid_edges head samples.now) (take result output.new) }
 {
-    let mut points = zeros::places();
-    let mut edges = zeros::numbers();
-    let mut marks = zeros::marks();
-    let mut triangles = zeros::triangles();
-    let mut work = zeros::numbers();
+    let mut points: [u32; MOST_SMALL_COORDINATES] = zeros::room(0);
+    let mut edges: [u32; MOST_SMALL_POINTS] = zeros::room(0);
+    let mut marks: [u8; MOST_SMALL_POINTS] = zeros::room(0);
+    let mut triangles: [u32; MOST_SMALL_CORNERS] = zeros::room(0);
+    let mut work: [u32; MOST_SMALL_POINTS] = zeros::room(0);
     let done = extract::extract(
-        grid.nx,
-        grid.ny,
-        grid.nz,
-        grid.grey,
+        head.nx,
+        head.ny,
+        head.nz,
+        head.grey,
         samples,
         &mut points,
         &mut edges,
@@ -33,15 +34,16 @@ fn write_grid(grid: Parsed, samples: &[u16], output: &mut [u8]) -> usize
         &mut triangles,
         &mut work[..3 * samples.len()],
     );
-    let v = done.points as usize;
-    let t = done.triangles as usize;
+    let counts = done.unwrap();
+    let v = counts.points as usize;
+    let t = counts.triangles as usize;
     write_smoothed(
         &points[..3 * v],
         &edges[..v],
         &marks[..v],
         &triangles[..3 * t],
-        grid.rounds,
-        grid.weight,
+        head.rounds,
+        head.weight,
         output,
     )
 }
@@ -53,11 +55,14 @@ pub fn answer(input: &[u8], output: &mut [u8]) -> usize
     ensures text { Answers input.now (take result output.new) }
 {
     let mut samples = [0u16; MOST_SMALL as usize];
-    let grid = gridtext::read_grid(input, &mut samples);
-    if grid.number != 0 {
-        let refused = writing::write_refusal(grid.number, grid.line, output);
-        return refused.length;
+    match gridtext::read_grid(input, &mut samples) {
+        Ok(head) => {
+            let n = (head.nx * (head.ny * head.nz)) as usize;
+            write_grid(head, &samples[..n], output)
+        }
+        Err(refusal) => {
+            let written = writing::write_refusal(refusal.number(), refusal.grid_line(), output);
+            written.unwrap_or(0)
+        }
     }
-    let n = (grid.nx * (grid.ny * grid.nz)) as usize;
-    write_grid(grid, &samples[..n], output)
 }

@@ -4,6 +4,7 @@ ghost use Rattle.small.specs.Streams.{Answered};
 
 use crate::answer;
 use printing::zeros;
+use printing::zeros::{MOST_INPUT, MOST_OUTPUT};
 use std::io;
 use std::io::{Read, Write};
 
@@ -29,9 +30,9 @@ pub fn answer_all<R: Read, W: Write>(input: &mut R, output: &mut W) -> io::Resul
     ensures { OnOk result (IfSome (R.remaining input.old) (λ given.
         Answered given (W.contents output.old) (W.contents output.new))) }
 {
-    let mut room = zeros::input();
+    let mut room: [u8; MOST_INPUT] = zeros::room(0);
     let filled = read_full(input, &mut room)?;
-    let mut text = zeros::output();
+    let mut text: [u8; MOST_OUTPUT] = zeros::room(0);
     let length = answer::answer(&room[..filled], &mut text);
     output.write_all(&text[..length])
 }

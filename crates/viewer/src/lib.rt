@@ -60,9 +60,10 @@ pub extern "C" fn tholbrina_extract(
     let done = extract::extract(
         nx, ny, nz, grey, samples, points, edges, marks, triangles, work,
     );
-    *point_count = done.points;
-    *triangle_count = done.triangles;
-    done.number
+    let counts = done.unwrap_or(NO_MESH);
+    *point_count = counts.points;
+    *triangle_count = counts.triangles;
+    told(done)
 }
 
 // Rounds of smoothing into the second point list. Answers 0 if granted, else the refusal's number.
@@ -79,7 +80,9 @@ pub extern "C" fn tholbrina_smooth(
     ensures { Smooths points.now triangles.now marks.now rounds weight
         smoothed.old work.old result smoothed.new work.new }
 {
-    smooth::smooth(points, triangles, marks, rounds, weight, smoothed, work)
+    told(smooth::smooth(
+        points, triangles, marks, rounds, weight, smoothed, work,
+    ))
 }
 
 // One point's coordinates out of the raw list, or out of the smoothed one if `second` is not 0. Answers 0 if granted, else the
@@ -98,14 +101,15 @@ pub extern "C" fn tholbrina_show<'a>(
         let after = x.new ∷ y.new ∷ z.new ∷ [] in
         Shows raw.now smoothed.now second point held result after }
 {
-    let mut number = 0;
-    let part = show::show(raw, smoothed, second != 0, point, &mut number);
-    if number == 0 {
-        *x = part[0];
-        *y = part[1];
-        *z = part[2];
+    match show::show(raw, smoothed, second != 0, point) {
+        Ok(part) => {
+            *x = part[0];
+            *y = part[1];
+            *z = part[2];
+            0
+        }
+        Err(refusal) => refusal.number(),
     }
-    number
 }
 
 // Corner areas and mean curvature vectors into the two lent rooms. Answers 0 if granted, else the refusal's number.
@@ -120,7 +124,9 @@ pub extern "C" fn tholbrina_curvature(
     ensures { let after = curvesLeft result areas.new vectors.new in
         Curves points.now triangles.now marks.now areas.old vectors.old after }
 {
-    curvature::curvature(points, triangles, marks, areas, vectors)
+    told(curvature::curvature(
+        points, triangles, marks, areas, vectors,
+    ))
 }
 
 // One point's answer: its kind, 0 open, 1 flat, 2 bent, its area and its vector; what a kind does not have is +0.0. Answers 0 if granted, else the
@@ -141,11 +147,10 @@ pub extern "C" fn tholbrina_answer(
         let after = area.new ∷ x.new ∷ y.new ∷ z.new ∷ [] in
         Tells marks.now areas.now vectors.now point kind.old held result kind.new after }
 {
-    let reading = curvature::read_back(marks, areas, vectors, point);
-    match reading {
-        Reading::Refused(number) => number,
-        Reading::Answered(answer) => {
-            let plain = curvature::told(answer);
+    match curvature::read_back(marks, areas, vectors, point) {
+        Err(refusal) => refusal.number(),
+        Ok(answer) => {
+            let plain = Plain::from(answer);
             *kind = plain.kind;
             *area = plain.area;
             *x = plain.vector.x;
@@ -172,6 +177,6 @@ pub extern "C" fn tholbrina_shells(
         Shells points.now triangles.now marks.now numbers.old work.old records.old after records.new }
 {
     let listed = shells::shells(points, triangles, marks, numbers, records, work);
-    *shell_count = listed.shells as u32;
-    listed.number
+    *shell_count = listed.unwrap_or(0) as u32;
+    told(listed)
 }

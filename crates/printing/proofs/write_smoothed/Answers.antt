@@ -5,12 +5,14 @@ use Prim.Native.Nat.{ℕ, ◌+◌, ◌*◌, ◌/◌}
 use native.Mathlib.Omega.{arith}
 use lib.ListN.{length, take, drop, length-append}
 use lib.Seq.{length-take-le, take_at}
+use Rattle.std.specs.Result.{IsOk}
 use Rattle.mesh.specs.Mesh.{triangles_of}
 use Rattle.rounds.specs.Round.{rounds}
 use Rattle.rounds.proofs.Within.{smoothed_passes}
 use Rattle.printing.specs.Prints.{after_rounds, Prints}
 use Rattle.printing.specs.SmallMesh.{mesh_of}
-use Rattle.printing.proofs.Smoothing.{smooth_granted}
+use Rattle.grid.proofs.Refused.{is_granted}
+use Rattle.printing.proofs.Smoothing.{smooth_granted, none_refused}
 use Rattle.printing.proofs.write_smoothed.Goals as goal
 use Rattle.printing.proofs.write_smoothed.Goals.{After-room-smoothed, After-smooth, After-room-work}
 
@@ -49,6 +51,14 @@ module _ (c : After-smooth) where
       take_at exit (drop (3 * length a.marks.now) c.room-smoothed.result) (3 * length a.marks.now) long
       ∙ (ap (λ o. o.second) c.smooth.ensures
       ∙ smooth_granted a.points.now a.triangles.now a.marks.now a.rounds a.weight _ _ c.requires.small_mesh.passes c.requires.rounds_le_most_rounds.0 c.requires.rounds_le_most_rounds.1 second working)
+
+  granted : IsOk c.smooth.result
+  granted =
+      let a = c.args in
+      is_granted c.smooth.result (ap (λ o. o.number) c.smooth.ensures ∙ none_refused a.points.now a.triangles.now a.marks.now a.rounds a.weight _ _ c.requires.small_mesh.passes c.requires.rounds_le_most_rounds.0 c.requires.rounds_le_most_rounds.1 second working)
+
+pub unwrap-requires : goal.unwrap-requires
+unwrap-requires c = granted (goal.at.unwrap-requires c).After-smooth
 
 pub slice_bounds-smoothed-end-2 : goal.slice_bounds-smoothed-end-2
 slice_bounds-smoothed-end-2 c =
