@@ -20,20 +20,20 @@ MarksFit input from v = (i : ℕ) → i < v → get_or (marks_on input from v) i
 
 -- a mesh that was granted, and rooms that hold it
 pub record Fillable (input : List ℕ) (r : Judged) (points edges marks triangles work : List ℕ) : Type 0 where
-  pub whole : length work ≡ work_length r.points r.triangles
-  pub few : r.points ≤ most_points
-  pub triangles_few : r.triangles ≤ most_triangles
-  pub points_hold : 3 * r.points ≤ length points
-  pub edges_hold : r.points ≤ length edges
-  pub marks_hold : r.points ≤ length marks
-  pub triangles_hold : 3 * r.triangles ≤ length triangles
-  pub there : PointsThere input r.points_at r.points
-  pub fit : MarksFit input r.points_at r.points
+  pub whole : length work ≡ work_length r.counts.points r.counts.triangles
+  pub few : r.counts.points ≤ most_points
+  pub triangles_few : r.counts.triangles ≤ most_triangles
+  pub points_hold : 3 * r.counts.points ≤ length points
+  pub edges_hold : r.counts.points ≤ length edges
+  pub marks_hold : r.counts.points ≤ length marks
+  pub triangles_hold : 3 * r.counts.triangles ≤ length triangles
+  pub there : PointsThere input r.points_at r.counts.points
+  pub fit : MarksFit input r.points_at r.counts.points
 
 -- each list of the mesh at the front of its room, the rest of the room as it was; and the work room is zero
 pub record ListsFilled (input : List ℕ) (r : Judged) (points₀ points edges₀ edges marks₀ marks triangles₀ triangles work₀ work : List ℕ) : Type 0 where
-  pub points_are : points ≡ laid (points_in r.points work₀) points₀
-  pub edges_are : edges ≡ laid (edges_at input r.points_at r.points) edges₀
-  pub marks_are : marks ≡ laid (marks_on input r.points_at r.points) marks₀
-  pub triangles_are : triangles ≡ laid (triangles_in r.points r.triangles work₀) triangles₀
+  pub points_are : points ≡ laid (points_in r.counts.points work₀) points₀
+  pub edges_are : edges ≡ laid (edges_at input r.points_at r.counts.points) edges₀
+  pub marks_are : marks ≡ laid (marks_on input r.points_at r.counts.points) marks₀
+  pub triangles_are : triangles ≡ laid (triangles_in r.counts.points r.counts.triangles work₀) triangles₀
   pub zeroed : work ≡ replicate (length work₀) 0

@@ -42,10 +42,10 @@ pub fn fill_lists(
     requires { Fillable input.now judged points.old edges.old marks.old triangles.old work.old }
     ensures { ListsFilled input.now judged points.old points.new edges.old edges.new marks.old marks.new triangles.old triangles.new work.old work.new }
 {
-    let v = judged.points as usize;
+    let v = judged.counts.points as usize;
     let from = judged.points_at;
     let coordinates = 3 * v;
-    let corners = 3 * (judged.triangles as usize);
+    let corners = 3 * (judged.counts.triangles as usize);
     points[..coordinates].copy_from_slice(&work[..coordinates]);
     triangles[..corners].copy_from_slice(&work[4 * v..4 * v + corners]);
     fill_points(input, from, v, edges, marks);

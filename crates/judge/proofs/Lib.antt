@@ -1,4 +1,3 @@
--- The refusals by the rooms' lengths; how each step ends.
-pub mod Rooms
+-- What is decided of the shells; how each step before them ends.
 pub mod Shells
 pub mod Steps

@@ -24,12 +24,15 @@ use Rattle.columns.proofs.Rooms.{many_points, many_triangles}
 use Rattle.roommesh.specs.Numbered.{Numberable, ShellsNumbered}
 use Rattle.meshread.specs.Lines.{edge_of, read_shell}
 use Rattle.meshread.specs.Mesh.{Mesh, mesh_of}
-use Rattle.meshread.specs.Promise.{mesh, own_records, shells_differ, Numbered}
+use Rattle.meshread.specs.Promise.{mesh, own_records, Numbered}
 use Rattle.meshread.proofs.Lines.{ShellFits, shell_exact}
 use Rattle.meshform.specs.Form.{shell_lines}
 use Rattle.sameshells.specs.Same.{said_of, shells_at, LinesThere, MeshLeft}
+use Rattle.std.specs.Prelude.{Result, Ok, Err}
+use Rattle.grid.specs.declared.refusal.Refusal.{Refusal}
+use Rattle.grid.specs.declared.refusal.Refusal.TheVariants.{OtherShells}
 use Rattle.judge.specs.declared.Judged.{Judged}
-use Rattle.judge.specs.Judged.{refused_with, Standing, mesh_in, JudgesSaid, others_shells, taken}
+use Rattle.judge.specs.Judged.{Standing, mesh_in, JudgesSaid, others_shells, taken}
 
 -- what was read does not depend on the number of the first line
 any_line : (shells line other : ℕ) (bs : List ℕ) (ss : List Shell) → shell_lines shells line bs ≡ lined ss [] → shell_lines shells other bs ≡ lined ss []
@@ -126,11 +129,9 @@ module _ (v t shells : ℕ) (input : List ℕ) (from next : ℕ) (old : List ℕ
           ∙ ap (λ ns. list_to k (record_of m.points m.triangles m.marks ns)) numbers_work
 
       -- another number of shells, or other shells: 16
-      module _ (r : Judged) (after : List ℕ) (zero : after ≡ replicate (length old) 0) (e : r ≡ refused_with shells_differ 0) where
+      module _ (r : Result Judged Refusal) (after : List ℕ) (zero : after ≡ replicate (length old) 0) (e : r ≡ Err OtherShells) where
         differ_with : (found : List ℕ) (k : ℕ) → Numbered m found k → (m.records ≡ own_records m found k → ⊥) → JudgesSaid (mesh m) input old r after
-        differ_with found k numbers differ =
-            others_shells m refl found k numbers differ (ap (λ x. x.number) e) (ap (λ x. x.line) e)
-            (record { points = ap (λ x. x.points) e; triangles = ap (λ x. x.triangles) e; shells = ap (λ x. x.shells) e }) zero
+        differ_with found k numbers differ = others_shells m refl found k numbers differ e zero
 
         pub other_count : (own ≡ shells → ⊥) → JudgesSaid (mesh m) input old r after
         unfolding mesh_of
@@ -145,10 +146,10 @@ module _ (v t shells : ℕ) (input : List ℕ) (from next : ℕ) (old : List ℕ
 
       -- granted
       pub own_records_lem : own ≡ shells → shells_at input next shells ≡ list_to shells (record_in v t work) → (after : List ℕ) → MeshLeft v t work after
-          → JudgesSaid (mesh m) input old (record { number = 0; line = 0; points = v; triangles = t; shells = shells; points_at = from; shells_at = next }) after
+          → JudgesSaid (mesh m) input old (Ok (record { counts = record { points = v; triangles = t; shells = shells }; points_at = from; shells_at = next })) after
       unfolding mesh_of
       own_records_lem same e after left =
-          taken m refl n.numbers own numbered (sym records_at ∙ e ∙ sym (ap (λ k. list_to k (record_in v t work)) same) ∙ own_is own) refl refl
+          taken m refl n.numbers own numbered (sym records_at ∙ e ∙ sym (ap (λ k. list_to k (record_in v t work)) same) ∙ own_is own) _ refl
           (record {
             many_points = sym (sym (ap length marks_in_lem) ∙ marks_long);
             many_triangles = sym (many_triangles v t old f.whole) ∙ ap triangle_count triangles_in_lem;

@@ -2,88 +2,67 @@
 
 #![tactic(auto)]
 
-ghost use Rattle.std.specs.Prelude.{◌≡◌, ◌^◌, ◌<◌, ◌≤◌, length, drop, replicate};
+ghost use Rattle.std.specs.Prelude.{◌≡◌, ◌^◌, ◌<◌, ◌≤◌, length, drop, replicate, Err};
 ghost use Rattle.grid.specs.Limits.{most_points, most_triangles};
+ghost use Rattle.grid.specs.Refusal.{told};
 ghost use Rattle.columns.specs.Room.{work_length, points_in, marks_in, triangles_in};
 ghost use Rattle.mesh.specs.Check.{mesh_number};
 ghost use Rattle.meshread.specs.Mesh.{read_lines_of};
 ghost use Rattle.meshread.specs.Promise.{room_number, with_lines};
 ghost use Rattle.meshform.specs.Form.{counts_for};
-ghost use Rattle.judge.specs.Judged.{refused_with, Standing, JudgesShells, JudgesMesh, JudgesSaid, lengths_for, Judges};
+ghost use Rattle.judge.specs.Judged.{Standing, JudgesShells, JudgesMesh, JudgesSaid, lengths_for, Judges};
 
 use grid::limits::{MOST_POINTS, MOST_TRIANGLES};
+use grid::refusal::Refusal;
 use meshform::take_lines;
-use meshrows::read_counts;
+use meshrows::{Counts, read_counts};
 use roommesh::{mesh_number, number_shells};
-use rooms::{clear, least};
 use sameshells::same_shells;
 
-// The refusal of shells that are not the mesh's own.
-const SHELLS_DIFFER: u32 = 16;
-
-// Number 0, the counts, and where the lines of the points and of the shells begin, if granted; else the refusal's number and line, and zeros.
+// A mesh that is granted: line 1's numbers, and where the lines of the points and of the shells begin.
 #[derive(Clone, Copy)]
 pub struct Judged {
-    pub number: u32,
-    pub line: u64,
-    pub points: u32,
-    pub triangles: u32,
-    pub shells: u32,
+    pub counts: Counts,
     pub points_at: usize,
     pub shells_at: usize,
 }
 
-fn refused(number: u32, line: u64) -> Judged
-    ensures { result ≡ refused_with number line }
-{
-    Judged {
-        number,
-        line,
-        points: 0,
-        triangles: 0,
-        shells: 0,
-        points_at: 0,
-        shells_at: 0,
-    }
-}
-
 // A refusal that comes after 3 makes the work room zero.
-fn refused_later(number: u32, line: u64, work: &mut [u32]) -> Judged
-    ensures { (result ≡ refused_with number line) × (work.new ≡ replicate (length work.old) 0) }
+fn refused_later(refusal: Refusal, work: &mut [u32]) -> Result<Judged, Refusal>
+    ensures { (result ≡ Err refusal) × (work.new ≡ replicate (length work.old) 0) }
 {
-    clear(work);
-    refused(number, line)
+    work.fill(0);
+    Err(refusal)
 }
 
-// The first of 4, 5, 11 and 3 that holds of line 1's numbers and the rooms, or 0.
-fn room_number(
-    v: u32,
-    t: u32,
-    shells: u32,
+// Refuses with the first of 4, 5, 11 and 3 that holds of line 1's numbers and the rooms.
+#[tactic(auto, unfolding(meshread::specs::Promise::room_number))]
+fn check_rooms(
+    counts: Counts,
     points: usize,
     edges: usize,
     marks: usize,
     triangles: usize,
     records: usize,
     work: usize,
-) -> u32
-    ensures { result ≡ room_number (counts_for v t shells) (lengths_for points edges marks triangles records work) }
+) -> Result<(), Refusal>
+    ensures { told result ≡ room_number (counts_for counts.points counts.triangles counts.shells) (lengths_for points edges marks triangles records work) }
 {
-    let point_room = least(MOST_POINTS as usize, least(points / 3, least(edges, marks)));
-    if point_room < v as usize {
-        return 4;
+    let point_room = (MOST_POINTS as usize).min((points / 3).min(edges.min(marks)));
+    if point_room < counts.points as usize {
+        return Err(Refusal::Points);
     }
-    let triangle_room = least(MOST_TRIANGLES as usize, triangles / 3);
-    if triangle_room < t as usize {
-        return 5;
+    let triangle_room = (MOST_TRIANGLES as usize).min(triangles / 3);
+    if triangle_room < counts.triangles as usize {
+        return Err(Refusal::Triangles);
     }
-    if records < shells as usize {
-        return 11;
+    if records < counts.shells as usize {
+        return Err(Refusal::Shells);
     }
-    if work != 6 * (v as usize) + 3 * (t as usize) {
-        return 3;
+    if work != 6 * (counts.points as usize) + 3 * (counts.triangles as usize) {
+        return Err(Refusal::Room);
     }
-    0
+    Ok(())
 }
 
 // The shells of a mesh that passed 7 to 9: they are those of the lines, or 16.
@@ -95,26 +74,27 @@ fn judge_shells(
     from: usize,
     next: usize,
     work: &mut [u32],
-) -> Judged
+) -> Result<Judged, Refusal>
     requires { Standing v t shells input.now from next work.old × (mesh_number (points_in v work.old) (triangles_in v t work.old) (marks_in v work.old) ≡ 0) }
     ensures { JudgesShells v t shells input.now from next work.old result work.new }
 {
     let own = number_shells(work, v, t);
     if own != shells {
-        return refused_later(SHELLS_DIFFER, 0, work);
+        return refused_later(Refusal::OtherShells, work);
     }
     if !same_shells(input, next, shells, work, v, t) {
-        return refused_later(SHELLS_DIFFER, 0, work);
+        return refused_later(Refusal::OtherShells, work);
     }
-    Judged {
-        number: 0,
-        line: 0,
+    let counts = Counts {
         points: v as u32,
         triangles: t as u32,
         shells: shells as u32,
+    };
+    Ok(Judged {
+        counts,
         points_at: from,
         shells_at: next,
-    }
+    })
 }
 
 // 7, 8 and 9, and then the shells.
@@ -126,13 +106,12 @@ fn judge_mesh(
     from: usize,
     next: usize,
     work: &mut [u32],
-) -> Judged
+) -> Result<Judged, Refusal>
     requires { Standing v t shells input.now from next work.old }
     ensures { JudgesMesh v t shells input.now from next work.old result work.new }
 {
-    let number = mesh_number(work, v, t);
-    if number != 0 {
-        return refused_later(number, 0, work);
+    if let Err(refusal) = mesh_number(work, v, t) {
+        return refused_later(refusal, work);
     }
     judge_shells(input, v, t, shells, from, next, work)
 }
@@ -145,13 +124,13 @@ fn judge_lines(
     shells: usize,
     from: usize,
     work: &mut [u32],
-) -> Judged
+) -> Result<Judged, Refusal>
     requires { (v ≤ most_points) × (t ≤ most_triangles) × (shells < 2 ^ 32) × (length work.old ≡ work_length v t) }
     ensures { JudgesSaid (with_lines (read_lines_of (counts_for v t shells) (drop from input.now))) input.now work.old result work.new }
 {
     match take_lines(input, from, v, t, shells, work) {
         Ok(next) => judge_mesh(input, v, t, shells, from, next, work),
-        Err(line) => refused_later(15, line, work),
+        Err(line) => refused_later(Refusal::MeshLine(line), work),
     }
 }
 
@@ -164,28 +143,19 @@ pub fn judge(
     triangles: usize,
     records: usize,
     work: &mut [u32],
-) -> Judged
+) -> Result<Judged, Refusal>
     ensures { Judges input.now (lengths_for points edges marks triangles records (length work.old)) work.old result work.new }
 {
     let Some((counts, next)) = read_counts(input) else {
-        return refused(15, 1);
+        return Err(Refusal::MeshLine(1));
     };
-    let v = counts.points;
-    let t = counts.triangles;
-    let shells = counts.shells;
-    let number = room_number(
-        v,
-        t,
-        shells,
-        points,
-        edges,
-        marks,
-        triangles,
-        records,
-        work.len(),
-    );
-    if number != 0 {
-        return refused(number, 0);
-    }
-    judge_lines(input, v as usize, t as usize, shells as usize, next, work)
+    check_rooms(counts, points, edges, marks, triangles, records, work.len())?;
+    judge_lines(
+        input,
+        counts.points as usize,
+        counts.triangles as usize,
+        counts.shells as usize,
+        next,
+        work,
+    )
 }

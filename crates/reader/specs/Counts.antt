@@ -1,11 +1,19 @@
 -- What is answered of line 1 of a mesh's text alone: its numbers, or the number 15 and zeros.
-use Rattle.std.specs.Prelude.{List, ℕ}
+use Rattle.std.specs.Prelude.{List, ℕ, Result, Ok, Err}
+use Rattle.grid.specs.declared.refusal.Refusal.{Refusal}
+use Rattle.grid.specs.Refusal.{number_of}
 use Rattle.reading.specs.Reading.{Got, bad, got}
 use Rattle.meshread.specs.Lines.{read_counts}
 use Rattle.meshread.specs.Lines as said
-use Rattle.reader.specs.declared.Counts.{Counts}
+use Rattle.meshrows.specs.declared.Counts.{Counts as Line}
 
 -- the number of a refusal or 0, and the three numbers
+pub record Counts : Type 0 where
+  pub number : ℕ
+  pub points : ℕ
+  pub triangles : ℕ
+  pub shells : ℕ
+
 abbrev pub counts_left : ℕ → ℕ → ℕ → ℕ → Counts
 counts_left number points triangles shells = record { number = number; points = points; triangles = triangles; shells = shells }
 
@@ -15,3 +23,8 @@ counts_found (got c rest) = counts_left 0 c.points c.triangles c.shells
 
 abbrev pub counts_answered : List ℕ → Counts
 counts_answered input = counts_found (read_counts input)
+
+-- an answer in numbers
+abbrev pub counts_told : Result Line Refusal → Counts
+counts_told (Ok c) = counts_left 0 c.points c.triangles c.shells
+counts_told (Err e) = counts_left (number_of e) 0 0 0

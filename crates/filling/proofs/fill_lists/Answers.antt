@@ -11,8 +11,8 @@ pub returns : goal.returns
 returns c =
     let a = c.args in
     let q = c.requires in
-    let v = a.judged.points in
-    let t = a.judged.triangles in
+    let v = a.judged.counts.points in
+    let t = a.judged.counts.triangles in
     let long : 4 * v + 3 * t - 4 * v ≡ 3 * t = omega arith in
     record {
       points_are = front_back a.work.now a.points.now c.copy_from_slice.new.self 0 (3 * v) q.points_hold (omega (arith, q.whole)) (rw (length-take-le (3 * v) a.points.now q.points_hold) c.copy_from_slice.ensures.after);

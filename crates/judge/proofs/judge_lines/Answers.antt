@@ -2,7 +2,8 @@
 use mathlib.Core.Path.{ap, ◌∙◌}
 use Prim.Native.Nat.{ℕ}
 use lib.ListN.{replicate}
-use Rattle.judge.proofs.Steps.{refuses, lines_refuse, standing, lines_go_on}
+use Rattle.judge.specs.Judged.{refused_early}
+use Rattle.judge.proofs.Steps.{lines_refuse, standing, lines_go_on}
 use Rattle.judge.proofs.judge_lines.Goals as goal
 
 pub judge_mesh-requires : goal.judge_mesh-requires
@@ -19,6 +20,4 @@ returns-in-Ok c =
 
 pub returns-in-Err : goal.returns-in-Err
 returns-in-Err c =
-    let a = c.args in
-    refuses _ a.input.now a.work.now c.refused_later.result c.refused_later.new.work 15 c.in-Err.line _ c.refused_later.ensures.0 (lines_refuse _ _ _ c.in-Err.ensures)
-    (c.refused_later.ensures.1 ∙ ap (λ n. replicate {A = ℕ} n 0) c.take_lines.auto.work)
+    refused_early _ c.refused_later.ensures.0 _ (lines_refuse _ _ _ c.in-Err.ensures) (c.refused_later.ensures.1 ∙ ap (λ n. replicate {A = ℕ} n 0) c.take_lines.auto.work)

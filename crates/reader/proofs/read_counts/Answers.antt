@@ -2,10 +2,10 @@
 use Rattle.reader.specs.Counts.{counts_found}
 use Rattle.reader.proofs.read_counts.Goals as goal
 
-pub returns-in_default : goal.returns-in_default
+pub returns-in-Some : goal.returns-in-Some
 unfolding counts_found
-returns-in_default c = rw c.in_default.ensures.line
+returns-in-Some c = rw c.in-Some.ensures.line
 
-pub returns : goal.returns
+pub returns-in-None : goal.returns-in-None
 unfolding counts_found
-returns c = rw c.in-Some.ensures.line
+returns-in-None c = rw c.in-None.ensures.line
