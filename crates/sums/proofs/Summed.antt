@@ -1,17 +1,12 @@
 -- What a triangle adds to the sums of a point, from the parts that are worked out on the way.
-use mathlib.Core.Bool.{true}
 use mathlib.Core.List.{List}
-use mathlib.Core.Path.{◌≡◌, sym}
-use Prim.Native.Nat.{ℕ, ◌+◌, ◌*◌, ◌<◌}
+use mathlib.Core.Path.{◌≡◌}
+use Prim.Native.Nat.{ℕ, ◌+◌}
 use native.Mathlib.Numerals.{add-one}
-use lib.Dec.{ltb}
 use lib.Ieee.{Float}
-use lib.ListN.{get_or}
-use borrow.Author.Tests.{eq-eqb, ne_eqb, ltb-true}
-use Rattle.laws.specs.Mesh.{Triangle, triangle}
-use Rattle.laws.proofs.Tests.{both, all_at}
-use Rattle.mesh.specs.Mesh.{triangle_at, triangle_count}
-use Rattle.mesh.specs.Check.{names_three, triangles_fit}
+use borrow.Author.Tests.{eq-eqb, ne_eqb}
+use Rattle.laws.specs.Mesh.{Triangle}
+use Rattle.mesh.specs.Mesh.{triangle_at}
 use Rattle.mesh.specs.declared.Place.{Place}
 use Rattle.mesh.specs.Place.{place_of}
 use Rattle.measures.specs.declared.corners.Dots.{Dots}
@@ -55,28 +50,3 @@ module _ (points : List ℕ) (t : Triangle) (x : ℕ) (s : Sum) where
 pub sum_next : (points triangles : List ℕ) (x n : ℕ) (s : Sum) → sum_after points triangles x (n + 1) s ≡ add_triangle points (triangle_at triangles n) x (sum_after points triangles x n s)
 unfolding sum_after
 sum_next points triangles x n s = rw (add-one)
-
--- the sums so far, with the next triangle added at its place in the list
-pub sum_more : (points triangles : List ℕ) (x i at : ℕ) (s now after : Sum) → at ≡ 3 * i → now ≡ sum_after points triangles x i s
-    → after ≡ add_triangle points (triangle (get_or triangles at 0) (get_or triangles (at + 1) 0) (get_or triangles (at + 2) 0)) x now → after ≡ sum_after points triangles x (i + 1) s
-sum_more points triangles x i at s now after place so_far added = rw (sum_next, sym so_far, sym place) added
-
--- a triangle of a checked list names points below V
-pub record Named (triangles : List ℕ) (v at : ℕ) : Type 0 where
-  pub one : get_or triangles at 0 < v
-  pub two : get_or triangles (at + 1) 0 < v
-  pub three : get_or triangles (at + 2) 0 < v
-
-named_by : (v : ℕ) (t : Triangle) → names_three v t ≡ true → (t.one < v) × (t.two < v) × (t.three < v)
-unfolding names_three
-named_by v t h =
-    let a = both (ltb t.one v) _ h in
-    let b = both (ltb t.two v) _ a.1 in
-    let c = both (ltb t.three v) _ b.1 in
-    (ltb-true t.one v a.0, ltb-true t.two v b.0, ltb-true t.three v c.0)
-
-pub named : (triangles : List ℕ) (v i at : ℕ) → triangles_fit triangles v ≡ true → i < triangle_count triangles → at ≡ 3 * i → Named triangles v at
-unfolding triangles_fit
-named triangles v i at h l place =
-    let n = named_by v (triangle_at triangles i) (all_at (triangle_count triangles) (λ k. names_three v (triangle_at triangles k)) h i l) in
-    rw place (record { one = n.0; two = n.1; three = n.2 })

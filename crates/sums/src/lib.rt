@@ -21,11 +21,7 @@ use mesh::Place;
 pub fn clear(room: &mut [f64])
     ensures { (k : ℕ) → k < length room.old → get_or room.new k nan ≡ plus_zero }
 {
-    let mut i = 0;
-    while i < room.len() {
-        room[i] = 0.0;
-        i += 1;
-    }
+    room.fill(0.0);
 }
 
 // The running vector at corner p of the triangle p, q, r, with the cotangents at q and r.
@@ -56,7 +52,7 @@ fn add_corner(
         let after = sum_at areas.new vectors.new in
         ((x : ℕ) → after x ≡ at_point point x (add_corner p q r share cotj cotk) (before x)) }
 {
-    areas[point] = areas[point] + share;
+    areas[point] += share;
     let at = 3 * point;
     let before = vectors::vector_at(vectors, at);
     vectors::put_vector(vectors, at, add_sides(before, p, q, r, cotj, cotk));
@@ -122,15 +118,11 @@ pub fn add_triangles(points: &[u32], triangles: &[u32], areas: &mut [f64], vecto
         let after = sum_at areas.new vectors.new in
         ((x : ℕ) → after x ≡ sum_after points.now triangles.now x (triangle_count triangles.now) (before x)) }
 {
-    let count = triangles.len() / 3;
-    let mut i = 0;
-    let mut at = 0;
-    while i < count {
+    for i in 0..triangles.len() / 3 {
+        let at = 3 * i;
         let a = triangles[at] as usize;
         let b = triangles[at + 1] as usize;
         let c = triangles[at + 2] as usize;
         add_triangle(points, areas, vectors, a, b, c);
-        at += 3;
-        i += 1;
     }
 }

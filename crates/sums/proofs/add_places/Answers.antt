@@ -19,15 +19,6 @@ pub shares-share-requires : goal.shares-share-requires
 shares-share-requires c =
     rw c.dots_of-dots.ensures (dots_small _ _ _ c.requires.near.0 c.requires.near.1 c.requires.near.2)
 
-pub add_corner-requires-2 : goal.add_corner-requires-2
-add_corner-requires-2 c =
-    let one = c.add_corner.auto in record { point_in_bounds = (omega (arith, one.areas, c.requires.a_in_bounds.1), omega (arith, one.areas, one.vectors, c.requires.a_in_bounds.3)); near = (c.requires.near.1, c.requires.near.2, c.requires.near.0) }
-
-pub add_corner-requires-3 : goal.add_corner-requires-3
-add_corner-requires-3 c =
-    let one = c.add_corner.auto in
-    let two = c.add_corner-2.auto in record { point_in_bounds = (omega (arith, one.areas, two.areas, c.requires.a_in_bounds.2), omega (arith, one.areas, one.vectors, two.areas, two.vectors, c.requires.a_in_bounds.3)); near = (c.requires.near.2, c.requires.near.0, c.requires.near.1) }
-
 pub returns : goal.returns
 returns c = λ x.
     let a = c.args in

@@ -1,6 +1,5 @@
 -- `sums::add_triangle` meets its contract.
 use mathlib.Core.Path.{sym, ◌∙◌}
-use native.Mathlib.Nat.{pos_of_ne-zero}
 use Rattle.laws.specs.Mesh.{triangle}
 use Rattle.mesh.specs.Place.{Near}
 use Rattle.mesh.proofs.Places.{near_place}
@@ -19,9 +18,8 @@ three_small c =
 pub cross_at-n-requires : goal.cross_at-n-requires
 cross_at-n-requires c = three_small (goal.at.cross_at-n-requires c).After-place_of-r
 
-pub add_places-requires : goal.add_places-requires
-add_places-requires c =
-    let n = c.cross_at-n in record { a_in_bounds = (c.requires.a_in_bounds.0, c.requires.a_in_bounds.1, c.requires.a_in_bounds.2, c.requires.rooms_fit.vectors_fit); near = three_small (goal.at.add_places-requires c).After-place_of-r; n_nonzero = (pos_of_ne-zero c.if-n-ne0.true, n.ensures) }
+pub add_places-requires-clause-near : goal.add_places-requires-clause-near
+add_places-requires-clause-near c = three_small (goal.at.add_places-requires-clause-near c).After-place_of-r
 
 pub returns-then-n-ne0 : goal.returns-then-n-ne0
 returns-then-n-ne0 c = λ x.
