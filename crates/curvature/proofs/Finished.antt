@@ -31,16 +31,16 @@ module _ (marks : List ℕ) (areas old : List Float) where
   pub none_finished : Finished marks areas old old 0
   none_finished = record { done = λ x h. absurd (omega arith); left = λ x h. refl }
 
-  module _ (vectors : List Float) (i at : ℕ) (h : Finished marks areas old vectors i) (place : at ≡ 3 * i) (small : 3 * i + 2 < length vectors) where
+  module _ (vectors : List Float) (i : ℕ) (h : Finished marks areas old vectors i) (small : 3 * i + 2 < length vectors) where
     abbrev after : List Float
-    after = put_vector vectors at (stored_vector (answer_from (get_or marks i 0) (sums (get_or areas i nan) (vector_at vectors at))))
+    after = put_vector vectors (3 * i) (stored_vector (answer_from (get_or marks i 0) (sums (get_or areas i nan) (vector_at vectors (3 * i)))))
 
     at_i : vector_at after (3 * i) ≡ stored_vector (answer_from (get_or marks i 0) (sum_at areas old i))
     unfolding sum_at
-    at_i = rw (place, h.left i (omega arith)) (vector_same vectors i _ small)
+    at_i = rw (h.left i (omega arith)) (vector_same vectors i _ small)
 
     elsewhere : (x : ℕ) → (i ≡ x → ⊥) → vector_at after (3 * x) ≡ vector_at vectors (3 * x)
-    elsewhere x ne = rw place (vector_other vectors i x _ ne)
+    elsewhere x ne = vector_other vectors i x _ ne
 
     done_by : (x : ℕ) → x < i + 1 → Dec (i ≡ x) → vector_at after (3 * x) ≡ stored_vector (answer_from (get_or marks x 0) (sum_at areas old x))
     done_by x l (yes e) = rw (sym e) at_i

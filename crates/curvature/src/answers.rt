@@ -93,11 +93,7 @@ pub(crate) fn finish(marks: &[u8], areas: &[f64], vectors: &mut [f64])
         let marked = marks.now in
         ((x : ℕ) → x < length marked → vector_at vectors.new (3 * x) ≡ stored_vector (answer_from (get_or marked x 0) (before x))) }
 {
-    let mut i = 0;
-    let mut at = 0;
-    while i < marks.len() {
-        finish_point(marks[i], areas[i], vectors, at);
-        at += 3;
-        i += 1;
+    for (i, mark) in marks.iter().enumerate() {
+        finish_point(*mark, areas[i], vectors, 3 * i);
     }
 }

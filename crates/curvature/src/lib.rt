@@ -2,11 +2,13 @@
 
 #![tactic(auto)]
 
+ghost use Rattle.grid.specs.Refusal.{told as told_number};
 ghost use Rattle.curvature.specs.Promise.{left, Curves, ReadsBack};
 
 mod answers;
 
 pub use answers::{Answer, Plain, Reading, told};
+use grid::refusal::Refusal;
 use measures::vectors;
 
 // The corner areas and mean curvature vectors of a mesh, into the two lent rooms.
@@ -16,25 +18,22 @@ pub fn curvature(
     marks: &[u8],
     areas: &mut [f64],
     vectors: &mut [f64],
-) -> u32
-    ensures { let after = left result areas.new vectors.new in
+) -> Result<(), Refusal>
+    ensures { let after = left (told_number result) areas.new vectors.new in
         Curves points.now triangles.now marks.now areas.old vectors.old after }
 {
-    let number = mesh::check(points, triangles, marks);
-    if number != 0 {
-        return number;
-    }
+    mesh::check(points, triangles, marks)?;
     if areas.len() != marks.len() {
-        return 3;
+        return Err(Refusal::Room);
     }
     if vectors.len() != 3 * marks.len() {
-        return 3;
+        return Err(Refusal::Room);
     }
     sums::clear(areas);
     sums::clear(vectors);
     sums::add_triangles(points, triangles, areas, vectors);
     answers::finish(marks, areas, vectors);
-    0
+    Ok(())
 }
 
 // One point's answer, from the marks and both rooms.

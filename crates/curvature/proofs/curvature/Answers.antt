@@ -5,29 +5,34 @@ use native.Mathlib.Omega.{arith}
 use lib.ListN.{length}
 use Rattle.sums.specs.Sums.{start}
 use Rattle.sums.specs.Rooms.{sum_at}
+use Rattle.std.proofs.lemmas.Result.{err_from_is_err_and}
+use Rattle.grid.specs.Refusal.{number_of}
+use Rattle.grid.proofs.Refused.{never_0}
 use Rattle.mesh.proofs.Passed.{passed}
 use Rattle.curvature.proofs.Granted.{refused_mesh, refused_areas, refused_vectors, granted_rooms, sums_start, area_is, vector_is}
 use Rattle.curvature.proofs.curvature.Goals as goal
 
-pub returns-then-number-ne0 : goal.returns-then-number-ne0
-returns-then-number-ne0 c =
+pub returns-in_err-check : goal.returns-in_err-check
+returns-in_err-check c =
     let a = c.args in
-    refused_mesh a.points.now a.triangles.now a.marks.now a.areas.now a.vectors.now c.check-number.result c.check-number.ensures c.if-number-ne0.true
+    let e = c.in_err-check.field-0.0 in
+    let p = err_from_is_err_and c.from_residual.result c.from_residual.ensures.1 in
+    rw (p.1, p.2) (refused_mesh a.points.now a.triangles.now a.marks.now a.areas.now a.vectors.now (number_of e) c.in_err-check.ensures (never_0 e))
 
 pub returns-then-areas-marks : goal.returns-then-areas-marks
 returns-then-areas-marks c =
     let a = c.args in
-    refused_areas a.points.now a.triangles.now a.marks.now a.areas.now a.vectors.now (sym c.check-number.ensures ∙ c.if-number-ne0.false) c.if-areas-marks.true
+    refused_areas a.points.now a.triangles.now a.marks.now a.areas.now a.vectors.now (sym c.in_ok-check.ensures) c.if-areas-marks.true
 
 pub returns-then-vectors-marks : goal.returns-then-vectors-marks
 returns-then-vectors-marks c =
     let a = c.args in
-    refused_vectors a.points.now a.triangles.now a.marks.now a.areas.now a.vectors.now (sym c.check-number.ensures ∙ c.if-number-ne0.false) c.if-vectors-marks.true
+    refused_vectors a.points.now a.triangles.now a.marks.now a.areas.now a.vectors.now (sym c.in_ok-check.ensures) c.if-vectors-marks.true
 
 pub add_triangles-requires : goal.add_triangles-requires
 add_triangles-requires c =
     let a = c.args in
-    let ok = passed a.points.now a.triangles.now a.marks.now (sym c.check-number.ensures ∙ c.if-number-ne0.false) in
+    let ok = passed a.points.now a.triangles.now a.marks.now (sym c.in_ok-check.ensures) in
     let one = c.clear.auto.room in
     let two = c.clear-2.auto.room in
     let areas-fit = c.if-areas-marks.false in
@@ -47,7 +52,7 @@ returns c =
     let points = c.args.points.now in
     let triangles = c.args.triangles.now in
     let marks = c.args.marks.now in
-    let pass = sym c.check-number.ensures ∙ c.if-number-ne0.false in
+    let pass = sym c.in_ok-check.ensures in
     let la = c.if-areas-marks.false in
     let lv = c.if-vectors-marks.false in
     let one = c.clear in
