@@ -13,8 +13,9 @@ use Rattle.laws.proofs.Rows.{length_rows, entry_at}
 use Rattle.mesh.specs.Check.{mesh_number}
 use Rattle.measures.specs.declared.vectors.Vector.{Vector}
 use Rattle.curvature.specs.declared.answers.Answer.TheVariants.{Open, Flat, Bent}
-use Rattle.curvature.specs.declared.answers.Reading.{Reading}
-use Rattle.curvature.specs.declared.answers.Reading.TheVariants.{Answered}
+use Rattle.std.proofs.Common.{Result, Ok}
+use Rattle.grid.specs.declared.refusal.Refusal.{Refusal}
+use Rattle.curvature.specs.declared.answers.Answer.{Answer}
 use Rattle.measures.specs.Vectors.{plus_zero, vector, numbers_of, vector_at}
 use Rattle.sums.specs.Sums.{Sum}
 use Rattle.curvature.specs.Answers.{answer_of, answer_from, stored_vector, answer_at}
@@ -72,11 +73,11 @@ module _ (points triangles marks : List ℕ) (pass : mesh_number points triangle
   mark_small : get_or marks point 0 ≤ 1
   mark_small = within_any 1 marks point (passed points triangles marks pass).marks_fit
 
-  rooms_read : (r : Reading) → ReadsBack marks areas vectors point r → r ≡ Answered (answer_for points triangles marks point)
+  rooms_read : (r : Result Answer Refusal) → ReadsBack marks areas vectors point r → r ≡ Ok (answer_for points triangles marks point)
   rooms_read r h =
-      one_reading marks areas vectors point r (Answered (answer_at marks areas vectors point)) h
+      one_reading marks areas vectors point r (Ok (answer_at marks areas vectors point)) h
       (answered marks areas vectors point (omega (arith, length_rows 1 (λ x. (sums_for points triangles x).area ∷ []) (λ k. refl) (length marks))) (omega (arith, length_rows 3 (λ x. numbers_of (stored_vector (answer_for points triangles marks x))) (λ k. refl) (length marks))) below mark_small)
-      ∙ ap Answered answer_is
+      ∙ ap Ok answer_is
 
 -- a call that answered 0 left what is defined for a granted one
 left_by_lem : (zero fits : Bool) (number : ℕ) (areas vectors : List Float) (g o : Outcome)
@@ -95,7 +96,7 @@ left_granted points triangles marks areas vectors o e z =
 
 -- so reading a point back after a granted call gives the answer that the call worked out
 pub stored_is_read : (points triangles marks : List ℕ) (areas vectors : List Float) (o : Outcome) → Curves points triangles marks areas vectors o → o.number ≡ 0
-    → (point : ℕ) → point < length marks → (r : Reading) → ReadsBack marks o.areas o.vectors point r → r ≡ Answered (answer_for points triangles marks point)
+    → (point : ℕ) → point < length marks → (r : Result Answer Refusal) → ReadsBack marks o.areas o.vectors point r → r ≡ Ok (answer_for points triangles marks point)
 unfolding granted
 stored_is_read points triangles marks areas vectors o e z point below r h =
     let g = left_granted points triangles marks areas vectors o e z in

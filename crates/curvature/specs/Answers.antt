@@ -1,12 +1,11 @@
 -- A point's answer: open, flat or bent (document 01, "Areas and mean curvature"), and how one is read back.
-use Rattle.std.specs.Prelude.{List, [], ◌∷◌, cond, ◌&&◌, not, ℕ, ◌*◌, eqb, leb, ltb, pos, length, get_or, Float}
+use Rattle.std.specs.Prelude.{List, [], ◌∷◌, cond, ◌&&◌, not, ℕ, ◌*◌, eqb, leb, ltb, pos, length, get_or, Float, Result, Ok, Err}
 use Rattle.std.specs.Float.{nan, binary64}
 use Rattle.std.specs.Float.Ieee.{mul, eq}
+use Rattle.grid.specs.declared.refusal.Refusal.{Refusal}
 use Rattle.measures.specs.declared.vectors.Vector.{Vector}
 use Rattle.curvature.specs.declared.answers.Answer.{Answer}
 use Rattle.curvature.specs.declared.answers.Answer.TheVariants.{Open, Flat, Bent}
-use Rattle.curvature.specs.declared.answers.Reading.{Reading}
-use Rattle.curvature.specs.declared.answers.Reading.TheVariants.{Answered, Refused}
 use Rattle.measures.specs.Vectors.{plus_zero, no_vector, vector_at, whole, over}
 use Rattle.sums.specs.Sums.{Sum}
 
@@ -41,15 +40,10 @@ values_of (Open area) = area ∷ []
 values_of Flat = []
 values_of (Bent area v) = area ∷ v.x ∷ v.y ∷ v.z ∷ []
 
--- the number of a reading, for each case: 0 if granted
-unfoldable pub reading_number : Reading → ℕ
-reading_number (Answered a) = 0
-reading_number (Refused n) = n
-
--- and what it holds: one answer's values, or no answer
-unfoldable pub holds_of : Reading → List (List Float)
-holds_of (Answered a) = values_of a ∷ []
-holds_of (Refused n) = []
+-- what a reading holds: one answer's values, or no answer
+unfoldable pub holds_of : Result Answer Refusal → List (List Float)
+holds_of (Ok a) = values_of a ∷ []
+holds_of (Err e) = []
 
 module _ (marks : List ℕ) (areas vectors : List Float) (point : ℕ) where
   -- 6 unless there are V areas and 3V numbers; 14 unless the point is below V; 9 for that point's mark; else 0

@@ -1,7 +1,9 @@
 -- What the calls promise.
-use Rattle.std.specs.Prelude.{◌≡◌, List, [], ◌∷◌, cond, ℕ, eqb, Float}
-use Rattle.curvature.specs.declared.answers.Reading.{Reading}
-use Rattle.curvature.specs.Answers.{kind_of, area_of, stored_vector, values_of, reading_number, holds_of, read_back_number, answer_at}
+use Rattle.std.specs.Prelude.{◌≡◌, List, [], ◌∷◌, cond, ℕ, eqb, Float, Result}
+use Rattle.grid.specs.declared.refusal.Refusal.{Refusal}
+use Rattle.grid.specs.Refusal.{told}
+use Rattle.curvature.specs.declared.answers.Answer.{Answer}
+use Rattle.curvature.specs.Answers.{kind_of, area_of, stored_vector, values_of, holds_of, read_back_number, answer_at}
 use Rattle.curvature.specs.Curved.{Outcome, curved}
 
 -- what was left behind, as one value
@@ -13,10 +15,10 @@ abbrev pub Curves : List ℕ → List ℕ → List ℕ → List Float → List F
 Curves points triangles marks areas vectors after = after ≡ curved points triangles marks areas vectors
 
 -- one answer read back: the number, and the values of the one answer if granted
-abbrev pub ReadsBack : List ℕ → List Float → List Float → ℕ → Reading → Type 0
+abbrev pub ReadsBack : List ℕ → List Float → List Float → ℕ → Result Answer Refusal → Type 0
 ReadsBack marks areas vectors point r =
     let number = read_back_number marks areas vectors point in
-    (reading_number r ≡ number) × (holds_of r ≡ cond (eqb number 0) (values_of (answer_at marks areas vectors point) ∷ []) [])
+    (told r ≡ number) × (holds_of r ≡ cond (eqb number 0) (values_of (answer_at marks areas vectors point) ∷ []) [])
 
 -- one answer read back by a caller in C: the number, and what kind, area, x, y and z hold after, given what they held
 abbrev pub Tells : List ℕ → List Float → List Float → ℕ → ℕ → List Float → ℕ → ℕ → List Float → Type 0

@@ -16,13 +16,6 @@ pub enum Answer {
     Bent(f64, Vector),
 }
 
-// One point's answer read back, or the refusal's number.
-#[derive(Clone, Copy)]
-pub enum Reading {
-    Answered(Answer),
-    Refused(u32),
-}
-
 // An answer as plain numbers: its kind, 0 open, 1 flat, 2 bent, its area and its vector; what a kind does not have is +0.0.
 #[derive(Clone, Copy)]
 pub struct Plain {

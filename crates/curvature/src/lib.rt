@@ -7,7 +7,7 @@ ghost use Rattle.curvature.specs.Promise.{left, Curves, ReadsBack};
 
 mod answers;
 
-pub use answers::{Answer, Plain, Reading, told};
+pub use answers::{Answer, Plain, told};
 use grid::refusal::Refusal;
 use measures::vectors;
 
@@ -37,24 +37,29 @@ pub fn curvature(
 }
 
 // One point's answer, from the marks and both rooms.
-pub fn read_back(marks: &[u8], areas: &[f64], vectors: &[f64], point: u32) -> Reading
+pub fn read_back(
+    marks: &[u8],
+    areas: &[f64],
+    vectors: &[f64],
+    point: u32,
+) -> Result<Answer, Refusal>
     ensures { ReadsBack marks.now areas.now vectors.now point result }
 {
     let v = marks.len();
     if areas.len() != v {
-        return Reading::Refused(6);
+        return Err(Refusal::Lengths);
     }
     if vectors.len() != 3 * v {
-        return Reading::Refused(6);
+        return Err(Refusal::Lengths);
     }
     let p = point as usize;
     if v <= p {
-        return Reading::Refused(14);
+        return Err(Refusal::Beyond);
     }
     let mark = marks[p];
     if mark > 1 {
-        return Reading::Refused(9);
+        return Err(Refusal::Marks);
     }
     let answer = answers::answer_of(mark, areas[p], vectors::vector_at(vectors, 3 * p));
-    Reading::Answered(answer)
+    Ok(answer)
 }
