@@ -2,37 +2,36 @@
 
 #![tactic(auto)]
 
+ghost use Rattle.std.specs.Prelude.{[], MatchResult};
+ghost use Rattle.grid.specs.Refusal.{number_of};
 ghost use Rattle.show.specs.Promise.{Shown};
 
+use grid::refusal::Refusal;
+
 // The three coordinates of one point as a part of one of the two lists: of the second, the smoothed, if so asked, else of
-// the raw. The number goes into the lent number; a refused call shows an empty part.
+// the raw. A refused call shows nothing.
 pub fn show<'a>(
     raw: &'a [u32],
     smoothed: &'a [u32],
     second: bool,
     point: u32,
-    number: &mut u32,
-) -> &'a [u32]
-    ensures { Shown raw.now smoothed.now second point result.now number.new }
+) -> Result<&'a [u32], Refusal>
+    ensures { MatchResult result (λ part. Shown raw.now smoothed.now second point part.now 0) (λ e. Shown raw.now smoothed.now second point [] (number_of e)) }
 {
     let count = raw.len();
     if count != smoothed.len() {
-        *number = 6;
-        return &raw[..0];
+        return Err(Refusal::Lengths);
     }
     if count % 3 != 0 {
-        *number = 6;
-        return &raw[..0];
+        return Err(Refusal::Lengths);
     }
     if count / 3 <= point as usize {
-        *number = 14;
-        return &raw[..0];
+        return Err(Refusal::Beyond);
     }
-    *number = 0;
     let at = 3 * (point as usize);
     if second {
-        &smoothed[at..at + 3]
+        Ok(&smoothed[at..at + 3])
     } else {
-        &raw[at..at + 3]
+        Ok(&raw[at..at + 3])
     }
 }
