@@ -1,5 +1,4 @@
--- Over the lists of neighbours a round is a round by definition (Linked, Ready); the refusals; one outcome.
+-- Over the lists of neighbours a round is a round by definition (Linked, Ready); one outcome.
 pub mod Linked
 pub mod Ready
-pub mod Refused
 pub mod OneSmoothed

@@ -44,6 +44,7 @@ fn granted(
 }
 
 // Rounds of smoothing into the second point list.
+#[tactic(auto, unfolding(crate::specs::Smooth::smoothed, crate::specs::Smooth::smooth_number, crate::specs::Smooth::smooth_rooms_fit), using(std::proofs::lemmas::Bool::Decides::nat_tests))]
 pub fn smooth(
     points: &[u32],
     triangles: &[u32],
@@ -67,7 +68,7 @@ pub fn smooth(
     if smoothed.len() != 3 * v {
         return Err(Refusal::Room);
     }
-    if work.len() != 2 * triangles.len() + 5 * v + 1 {
+    if work.len() != 6 * (triangles.len() / 3) + 5 * v + 1 {
         return Err(Refusal::Room);
     }
     granted(points, triangles, marks, rounds, weight, smoothed, work);
