@@ -1,5 +1,4 @@
 -- A granted call: the checks have passed, and the rooms hold what is defined.
-use mathlib.Core.Bool.{and-false}
 use mathlib.Core.List.{List, [], ◌∷◌}
 use mathlib.Core.Path.{◌≡◌, refl, sym, ap, ap₂, ◌∙◌}
 use Prim.Native.Nat.{ℕ, zero, suc, ◌+◌, ◌*◌, ◌/◌, ◌%◌, ◌<◌}
@@ -7,7 +6,7 @@ use native.Mathlib.Omega.{arith}
 use lib.Ieee.{Float, nan}
 use lib.ListN.{length, get_or}
 use lib.Seq.{ext_get_or}
-use borrow.Author.Tests.{eq-eqb, ne_eqb}
+use borrow.Author.Tests.{eq-eqb}
 use Rattle.laws.specs.Range.{join_to}
 use Rattle.laws.proofs.Rows.{length_rows, entry_at}
 use Rattle.mesh.specs.Mesh.{triangle_count}
@@ -50,19 +49,7 @@ rows_of_three n f vectors l h =
     ∙ sym (ap (λ k. get_or (join_to n (λ y. numbers_of (f y))) k nan) row ∙ entry_at 3 (λ y. numbers_of (f y)) (λ k. refl) n x r nan small (omega arith)))
 
 module _ (points triangles marks : List ℕ) (areas vectors : List Float) where
-  pub refused_mesh : (n : ℕ) → n ≡ mesh_number points triangles marks → (n ≡ 0 → ⊥) → left n areas vectors ≡ curved points triangles marks areas vectors
-  unfolding curved
-  refused_mesh n e h = rw (sym e, ne_eqb n 0 h)
-
   module _ (pass : mesh_number points triangles marks ≡ 0) where
-    pub refused_areas : (length areas ≡ length marks → ⊥) → left 3 areas vectors ≡ curved points triangles marks areas vectors
-    unfolding curved
-    refused_areas h = rw (pass, ne_eqb _ _ h)
-
-    pub refused_vectors : (length vectors ≡ 3 * length marks → ⊥) → left 3 areas vectors ≡ curved points triangles marks areas vectors
-    unfolding curved
-    refused_vectors h = rw (pass, ne_eqb _ _ h, and-false)
-
     pub granted_rooms : length areas ≡ length marks → length vectors ≡ 3 * length marks → (areas' vectors' : List Float) → length areas' ≡ length marks → length vectors' ≡ 3 * length marks
         → ((x : ℕ) → x < length marks → get_or areas' x nan ≡ (sums_for points triangles x).area)
         → ((x : ℕ) → x < length marks → vector_at vectors' (3 * x) ≡ stored_vector (answer_for points triangles marks x)) → left 0 areas' vectors' ≡ curved points triangles marks areas vectors

@@ -24,6 +24,7 @@ pub struct Plain {
     pub vector: Vector,
 }
 
+#[tactic(auto, unfolding(crate::specs::Answers::kind_of, crate::specs::Answers::area_of, crate::specs::Answers::stored_vector))]
 pub fn told(answer: Answer) -> Plain
     ensures { (result.kind ≡ kind_of answer) × (result.area ≡ area_of answer) × (result.vector ≡ stored_vector answer) }
 {
@@ -46,6 +47,7 @@ pub fn told(answer: Answer) -> Plain
     }
 }
 
+#[tactic(auto, unfolding(crate::specs::Answers::answer_of), using(std::proofs::lemmas::Bool::Decides::nat_tests))]
 pub(crate) fn answer_of(mark: u8, area: f64, vector: Vector) -> Answer
     ensures { result ≡ answer_of mark area vector }
 {
@@ -59,6 +61,7 @@ pub(crate) fn answer_of(mark: u8, area: f64, vector: Vector) -> Answer
 }
 
 // Open and flat points are stored with +0.0.
+#[tactic(auto, unfolding(crate::specs::Answers::stored_vector))]
 fn stored_vector(answer: Answer) -> Vector
     ensures { result ≡ stored_vector answer }
 {

