@@ -1,6 +1,6 @@
 -- A point's answer and the vector that is stored for it.
 use mathlib.Core.List.{List}
-use mathlib.Core.Path.{◌≡◌, refl, sym, ◌∙◌}
+use mathlib.Core.Path.{◌≡◌, sym, ◌∙◌}
 use Prim.Native.Nat.{ℕ, ◌+◌, ◌*◌, ◌≤◌, ◌<◌}
 use native.Mathlib.Decide.{ℕ_discrete}
 use native.Mathlib.Omega.{arith}
@@ -28,9 +28,6 @@ pub record Finished (marks : List ℕ) (areas old vectors : List Float) (i : ℕ
   pub left : (x : ℕ) → i ≤ x → vector_at vectors (3 * x) ≡ vector_at old (3 * x)
 
 module _ (marks : List ℕ) (areas old : List Float) where
-  pub none_finished : Finished marks areas old old 0
-  none_finished = record { done = λ x h. absurd (omega arith); left = λ x h. refl }
-
   module _ (vectors : List Float) (i : ℕ) (h : Finished marks areas old vectors i) (small : 3 * i + 2 < length vectors) where
     abbrev after : List Float
     after = put_vector vectors (3 * i) (stored_vector (answer_from (get_or marks i 0) (sums (get_or areas i nan) (vector_at vectors (3 * i)))))

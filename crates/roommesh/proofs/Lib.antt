@@ -1,3 +1,2 @@
--- A mesh in the parts of a room.
-pub mod Checks
+-- The shell numbers of a mesh in the parts of a room.
 pub mod Numbering

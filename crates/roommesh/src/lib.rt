@@ -14,6 +14,7 @@ use grid::limits::MOST_COORDINATE;
 use grid::refusal::Refusal;
 
 // The first of the refusals 7, 8 and 9 that holds of v points and t triangles in the room.
+#[tactic(auto, unfolding(mesh::specs::Check::mesh_number, mesh::specs::Check::lengths_fit), using(std::proofs::lemmas::Bool::Decides::nat_tests))]
 pub fn mesh_number(work: &[u32], v: usize, t: usize) -> Result<(), Refusal>
     requires { (v ≤ most_points) × (t ≤ most_triangles) × (4 * v + 3 * t ≤ length work.now) }
     ensures { told result ≡ mesh_number (part_of 0 (3 * v) work.now) (part_of (triangles_at v) (3 * t) work.now) (part_of (marks_at v) v work.now) }

@@ -1,12 +1,12 @@
 -- What the call that shows a point answers, refusal by refusal.
 use mathlib.Core.Path.{◌≡◌, refl, sym, ◌∙◌}
 use mathlib.Core.List.{List, [], ◌∷◌}
-use mathlib.Core.Bool.{Bool, true, false, cond, not, ◌&&◌, and-false}
-use Prim.Native.Nat.{ℕ, ◌+◌, ◌-◌, ◌*◌, ◌/◌, ◌%◌, ◌<◌, ◌≤◌}
+use mathlib.Core.Bool.{Bool, true, false, cond, not, ◌&&◌}
+use Prim.Native.Nat.{ℕ, ◌*◌, ◌/◌, ◌%◌, ◌<◌}
 use native.Mathlib.Omega.{arith}
 use lib.Dec.{eqb, leb}
-use lib.ListN.{length, get_or, take, drop, length-take, length-drop}
-use borrow.Author.Tests.{eq-eqb, ne_eqb, le-leb, lt-leb, eqb-true, leb-false}
+use lib.ListN.{length, get_or, drop, length-take, length-drop}
+use borrow.Author.Tests.{ne_eqb, eqb-true, leb-false}
 use Rattle.show.specs.Show.{show_number, shown_else}
 use Rattle.show.specs.Promise.{Shown}
 
@@ -24,29 +24,6 @@ module _ (raw smoothed : List ℕ) (second : Bool) (point : ℕ) where
   -- the part and the number, as the contract states them
   abbrev Answered : List ℕ → ℕ → Type 0
   Answered part n = Shown raw smoothed second point part n
-
-  refused : (n : ℕ) → number ≡ n → 0 < n → Answered [] n
-  unfolding shown_else
-  refused n e l = (rw (e, ne_eqb n 0 (λ h. absurd (omega arith))), sym e)
-
-  pub other_lengths : (length raw ≡ length smoothed → ⊥) → Answered [] 6
-  unfolding show_number
-  other_lengths h = refused 6 (rw (ne_eqb _ _ h)) (omega arith)
-
-  pub not_in_threes : length raw ≡ length smoothed → (length raw % 3 ≡ 0 → ⊥) → Answered [] 6
-  unfolding show_number
-  not_in_threes q h = refused 6 (rw (ne_eqb _ _ h, and-false)) (omega arith)
-
-  pub no_such_point : length raw ≡ length smoothed → length raw % 3 ≡ 0 → length raw / 3 ≤ point → Answered [] 14
-  unfolding show_number
-  no_such_point q t l = refused 14 (rw (eq-eqb _ _ q, eq-eqb _ _ t, le-leb _ _ l)) (omega arith)
-
-  -- the part goes from three times the point for three numbers
-  pub granted : length raw ≡ length smoothed → length raw % 3 ≡ 0 → point < length raw / 3 → (b : Bool) → second ≡ b → Answered (take (3 * point + 3 - 3 * point) (drop (3 * point) (cond b smoothed raw))) 0
-  unfolding shown_else show_number
-  granted q t l b s =
-      let three : 3 * point + 3 - 3 * point ≡ 3 = omega arith in
-      (rw (three, eq-eqb _ _ q, eq-eqb _ _ t, lt-leb _ _ l, s), rw (eq-eqb _ _ q, eq-eqb _ _ t, lt-leb _ _ l))
 
   -- a granted call passed all three tests
   passed : (s t l : Bool) → ◌≡◌ {A = ℕ} (cond (not (s && t)) 6 (cond l 14 0)) 0 → (s ≡ true) × (t ≡ true) × (l ≡ false)

@@ -10,6 +10,7 @@ use grid::refusal::Refusal;
 
 // The three coordinates of one point as a part of one of the two lists: of the second, the smoothed, if so asked, else of
 // the raw. A refused call shows nothing.
+#[tactic(auto, unfolding(crate::specs::Show::show_number, crate::specs::Show::shown_else), using(std::proofs::lemmas::Bool::Decides::nat_tests))]
 pub fn show<'a>(
     raw: &'a [u32],
     smoothed: &'a [u32],
