@@ -1,5 +1,5 @@
 -- The ways out of the three calls, each from what its tests said.
-use mathlib.Core.Path.{◌≡◌, refl}
+use mathlib.Core.Path.{◌≡◌, refl, ap, sym, ◌∙◌}
 use mathlib.Core.List.{List, flat_map}
 use mathlib.Core.Bool.{Bool, true, false, cond, not, ◌&&◌, ◌||◌}
 use Prim.Native.Nat.{ℕ, ◌*◌, ◌≤◌}
@@ -101,9 +101,6 @@ module _ (r : Rooms) (room : List ℕ) where
     last_granted t = rw t
 
 -- what was left behind, part by part
-pub nothing_left : (r : Rooms) (room : List ℕ) {number other points triangles : ℕ} → number ≡ other → points ≡ 0 → triangles ≡ 0 → left number points triangles r room ≡ left other 0 0 r room
-nothing_left r room n p t i = left (n i) (p i) (t i) r room
-
 module _ (r : Rooms) (room : List ℕ) (h : Handed) {found made : ℕ} {places edges marks triangles state after : List ℕ} where
   pub all_left : found ≡ length h.edges → made ≡ length h.triangles → places ≡ laid h.places r.points → edges ≡ laid h.edges r.edges → marks ≡ laid h.marks r.marks
       → triangles ≡ laid (flat h.triangles) r.triangles → state ≡ after → left 0 found made (rooms places edges marks triangles) state ≡ granted r room h after
@@ -123,7 +120,7 @@ pub refusal_same : {head other : Head} {room room' points points' triangles tria
 refusal_same triangle_room h r p t i = refusal_for (h i) (r i) triangle_room (p i) (t i)
 
 -- a first layer hands out nothing
-pub first_measured : (r : Rooms) (room layer : List ℕ) → left (first_taken layer room).number 0 0 r (first_taken layer room).state ≡ layer_measured r room layer (layer_hands (state_in room) 0 layer)
+first_measured : (r : Rooms) (room layer : List ℕ) → left (first_taken layer room).number 0 0 r (first_taken layer room).state ≡ layer_measured r room layer (layer_hands (state_in room) 0 layer)
 unfolding layer_measured layer_hands first_taken refused granted laid flat flat_map state_in
 first_measured r room layer =
     let p = (head_in room).points in
@@ -136,6 +133,10 @@ first_measured r room layer =
     go true b after = refl
     go false true after = refl
     go false false after = refl
+
+first_left : (r : Rooms) (room layer : List ℕ) {number : ℕ} {state : List ℕ} → open_left number state ≡ first_taken layer room
+    → left number 0 0 r state ≡ layer_measured r room layer (layer_hands (state_in room) 0 layer)
+first_left r room layer kept = (λ i. left (kept i).number 0 0 r (kept i).state) ∙ first_measured r room layer
 
 -- a layer and a closing, refused for the state
 module _ (r : Rooms) (room : List ℕ) where
@@ -170,6 +171,11 @@ module _ (r : Rooms) (room : List ℕ) (long : eqb (length room) state_length �
   pub layer_taken : (layer : List ℕ) → amiss layer ≡ false → layer_measured r room layer (layer_hands (state_in room) (head_in room).taken layer) ≡ layered r room layer
   unfolding layered state_in
   layer_taken layer t = rw t (state_some r room _ long some)
+
+  pub first_layered : (layer : List ℕ) {number : ℕ} {state : List ℕ} → amiss layer ≡ false → (head_in room).taken ≡ 0 → open_left number state ≡ first_taken layer room
+      → left number 0 0 r state ≡ layered r room layer
+  first_layered layer t none kept =
+      first_left r room layer kept ∙ ap (λ n. layer_measured r room layer (layer_hands (state_in room) n layer)) (sym none) ∙ layer_taken layer t
 
   abbrev early : Bool
   early = ltb (head_in room).taken (head_in room).nz || not (eqb (head_in room).closed 0)

@@ -4,6 +4,7 @@
 
 ghost use Rattle.std.specs.Prelude.{◌≡◌, [], ◌++◌, ◌+◌, ◌*◌, ◌/◌, ◌≤◌, ◌<◌, min, length};
 ghost use Rattle.grid.specs.Limits.{most_number, most_side};
+ghost use Rattle.grid.specs.Refusal.{told};
 ghost use Rattle.grid.specs.Work.{SidesFit};
 ghost use Rattle.rows.specs.Rows.{size_of, grid_samples};
 ghost use Rattle.pointplaces.specs.Places.{Given};
@@ -12,88 +13,59 @@ ghost use Rattle.layerstate.specs.Heads.{head_in};
 ghost use Rattle.layerparts.specs.Layer.{layer_through, last_layer};
 ghost use Rattle.layers.specs.Outcome.{layer_hands, layer_measured, closing_hands, closing_measured};
 ghost use Rattle.layers.specs.First.{first_taken};
-ghost use Rattle.layers.specs.Promise.{rooms, open_left, left, Opens, Layers, Closes};
+ghost use Rattle.layers.specs.Promise.{rooms, open_left, answered, closing_answered, Opens, Layers, Closes};
 
 use grid::limits::{MOST_POINTS, MOST_SIDE, MOST_TRIANGLES};
+use grid::refusal::Refusal;
 use layerstate::{Head, KEPT_AT, STATE_LENGTH};
 use masks::MOST_WORDS;
 use rows::Sides;
 
-// The numbers for a layer of wrong length or one too many, and for closing early or a second time.
-const LAYER_AMISS: u32 = 17;
-
-const CLOSED_EARLY: u32 = 18;
-
 // The words of the rows of two layers.
 const PAIR_WORDS: usize = 2 * (MOST_WORDS / MOST_SIDE as usize);
 
-// Number 0 and the two counts if granted, else the refusal's number and zero counts.
+// How many points and triangles are handed out.
 #[derive(Clone, Copy)]
 pub struct Answered {
-    pub number: u32,
     pub points: u32,
     pub triangles: u32,
-}
-
-// Nothing is handed out.
-fn nothing(number: u32) -> Answered
-    ensures { (result.number ≡ number) × (result.points ≡ 0) × (result.triangles ≡ 0) }
-{
-    Answered {
-        number,
-        points: 0,
-        triangles: 0,
-    }
-}
-
-// The same of a closing, which hands out no triangles.
-#[derive(Clone, Copy)]
-pub struct Closed {
-    pub number: u32,
-    pub points: u32,
-}
-
-fn not_closed(number: u32) -> Closed
-    ensures { (result.number ≡ number) × (result.points ≡ 0) }
-{
-    Closed { number, points: 0 }
 }
 
 // How many points the three rooms hold.
 fn point_room(points: usize, edges: usize, marks: usize) -> usize
     ensures { result ≡ min (points / 3) (min edges marks) }
 {
-    rooms::least(points / 3, rooms::least(edges, marks))
+    (points / 3).min(edges.min(marks))
 }
 
-// The opening of a run. Answers 0 if granted, else the refusal's number.
-pub fn open(nx: u32, ny: u32, nz: u32, grey: u16, state: &mut [u32]) -> u32
-    ensures { Opens nx ny nz grey state.old (open_left result state.new) }
+// The opening of a run.
+pub fn open(nx: u32, ny: u32, nz: u32, grey: u16, state: &mut [u32]) -> Result<(), Refusal>
+    ensures { Opens nx ny nz grey state.old (open_left (told result) state.new) }
 {
     if !grid::sides_fit(nx, ny, nz) {
-        return 1;
+        return Err(Refusal::Side);
     }
     if state.len() != STATE_LENGTH {
-        return 3;
+        return Err(Refusal::Room);
     }
     layerstate::write_opened(nx, ny, nz, grey, state);
-    0
+    Ok(())
 }
 
 // The first layer is kept, if the state's totals are within the limits.
-fn take_first(head: Head, layer: &[u16], state: &mut [u32]) -> u32
+fn take_first(head: Head, layer: &[u16], state: &mut [u32]) -> Result<(), Refusal>
     requires head_value { head ≡ head_in state.old }
     requires state_len { (length state.old ≡ state_length) × (length layer.now ≤ most_layer) × (head.taken < most_side) }
-    ensures { open_left result state.new ≡ first_taken layer.now state.old }
+    ensures { open_left (told result) state.new ≡ first_taken layer.now state.old }
 {
     if MOST_POINTS < head.points {
-        return 4;
+        return Err(Refusal::Points);
     }
     if MOST_TRIANGLES < head.triangles {
-        return 5;
+        return Err(Refusal::Triangles);
     }
     layerstate::write_layered(layer, 0, 0, state);
-    0
+    Ok(())
 }
 
 // The points of the kept layer and the triangles over it, to the front of their rooms, and the new layer into the state, which is written last.
@@ -108,7 +80,7 @@ fn hand_out(
     edges: &mut [u32],
     marks: &mut [u8],
     triangles: &mut [u32],
-) -> Answered
+) -> Result<Answered, Refusal>
     requires given { Given sides sides.below grey (kept_in (sides.nx * sides.ny) state.old ++ layer.now) masks.now }
     requires below_bound { sides.below + 1 < sides.nz }
     requires head_value { head ≡ head_in state.old }
@@ -117,23 +89,19 @@ fn hand_out(
         let after = rooms points.new edges.new marks.new triangles.new in
         let samples = kept_in (sides.nx * sides.ny) state.old ++ layer.now in
         let handed = layer_through (size_of sides) grey (grid_samples sides samples) sides.below in
-        left result.number result.points result.triangles after state.new ≡ layer_measured before state.old layer.now handed }
+        answered result after state.new ≡ layer_measured before state.old layer.now handed }
 {
     let room = point_room(points.len(), edges.len(), marks.len());
-    let number = layerparts::refusal(head, sides, masks, room, triangles.len() / 3);
-    if number != 0 {
-        return nothing(number);
-    }
+    layerparts::check_fits(head, sides, masks, room, triangles.len() / 3)?;
     let past = KEPT_AT + sides.nx * sides.ny;
     let kept = &state[KEPT_AT..past];
     let found = layerparts::hand_points(sides, grey, kept, layer, masks, points, edges, marks);
     let made = layerparts::hand_triangles(sides, masks, triangles);
     layerstate::write_layered(layer, found, made, state);
-    Answered {
-        number: 0,
+    Ok(Answered {
         points: found,
         triangles: made,
-    }
+    })
 }
 
 // A layer over the kept one.
@@ -145,7 +113,7 @@ fn take_over(
     edges: &mut [u32],
     marks: &mut [u8],
     triangles: &mut [u32],
-) -> Answered
+) -> Result<Answered, Refusal>
     requires head_value { head ≡ head_in state.old }
     requires sides_fit { SidesFit head.nx head.ny head.nz × (head.grey ≤ most_number) }
     requires state_len { (length state.old ≡ state_length) × (length layer.now ≡ head.nx * head.ny) }
@@ -154,7 +122,7 @@ fn take_over(
         let after = rooms points.new edges.new marks.new triangles.new in
         let room = state.old in
         let handed = layer_hands (state_in room) head.taken layer.now in
-        left result.number result.points result.triangles after state.new ≡ layer_measured before room layer.now handed }
+        answered result after state.new ≡ layer_measured before room layer.now handed }
 {
     let sides = layerparts::frame(head, head.taken as usize - 1);
     let grey = head.grey as u16;
@@ -176,28 +144,32 @@ pub fn next(
     edges: &mut [u32],
     marks: &mut [u8],
     triangles: &mut [u32],
-) -> Answered
+) -> Result<Answered, Refusal>
     ensures { let before = rooms points.old edges.old marks.old triangles.old in
         let after = rooms points.new edges.new marks.new triangles.new in
-        Layers layer.now before state.old (left result.number result.points result.triangles after state.new) }
+        Layers layer.now before state.old (answered result after state.new) }
 {
     if state.len() != STATE_LENGTH {
-        return nothing(3);
+        return Err(Refusal::Room);
     }
     let head = layerstate::read_head(state);
     if !layerstate::is_state(head) {
-        return nothing(1);
+        return Err(Refusal::Side);
     }
     if layerstate::is_amiss(head, layer.len()) {
-        return nothing(LAYER_AMISS);
+        return Err(Refusal::Layer);
     }
     if head.taken == 0 {
-        return nothing(take_first(head, layer, state));
+        take_first(head, layer, state)?;
+        return Ok(Answered {
+            points: 0,
+            triangles: 0,
+        });
     }
     take_over(head, layer, state, points, edges, marks, triangles)
 }
 
-// The points of the last layer, to the front of their rooms, and the end of the run into the state.
+// The points of the last layer, to the front of their rooms, and the end of the run into the state. Answers how many they are.
 fn hand_last(
     head: Head,
     sides: Sides,
@@ -207,7 +179,7 @@ fn hand_last(
     points: &mut [u32],
     edges: &mut [u32],
     marks: &mut [u8],
-) -> Closed
+) -> Result<u32, Refusal>
     requires given { Given sides sides.below grey (kept_in (sides.nx * sides.ny) state.old) masks.now }
     requires below_lt_nz { sides.below < sides.nz }
     requires head_value { (head ≡ head_in state.old) × (length state.old ≡ state_length) }
@@ -215,22 +187,19 @@ fn hand_last(
         let after = rooms points.new edges.new marks.new [] in
         let samples = kept_in (sides.nx * sides.ny) state.old in
         let handed = last_layer (size_of sides) grey (grid_samples sides samples) sides.below in
-        left result.number result.points 0 after state.new ≡ closing_measured before state.old handed }
+        closing_answered result after state.new ≡ closing_measured before state.old handed }
 {
     let found = layerparts::counting::count_points(sides, masks);
     let room = point_room(points.len(), edges.len(), marks.len());
     if layerparts::exceeds(head.points, found, MOST_POINTS, room) {
-        return not_closed(4);
+        return Err(Refusal::Points);
     }
     let past = KEPT_AT + sides.nx * sides.ny;
     let kept = &state[KEPT_AT..past];
     let none_new = [0u16; 0];
     layerparts::hand_points(sides, grey, kept, &none_new, masks, points, edges, marks);
     layerstate::write_closed(found, state);
-    Closed {
-        number: 0,
-        points: found,
-    }
+    Ok(found)
 }
 
 // The kept layer is the last.
@@ -240,13 +209,13 @@ fn close_over(
     points: &mut [u32],
     edges: &mut [u32],
     marks: &mut [u8],
-) -> Closed
+) -> Result<u32, Refusal>
     requires head_value { (head ≡ head_in state.old) × (length state.old ≡ state_length) }
     requires sides_fit { SidesFit head.nx head.ny head.nz × (head.grey ≤ most_number) }
     ensures { let before = rooms points.old edges.old marks.old [] in
         let after = rooms points.new edges.new marks.new [] in
         let room = state.old in
-        left result.number result.points 0 after state.new ≡ closing_measured before room (closing_hands (state_in room)) }
+        closing_answered result after state.new ≡ closing_measured before room (closing_hands (state_in room)) }
 {
     let sides = layerparts::frame(head, head.nz as usize - 1);
     let grey = head.grey as u16;
@@ -259,21 +228,26 @@ fn close_over(
     hand_last(head, sides, grey, &masks, state, points, edges, marks)
 }
 
-// The closing of a run: the points of the last layer, into lent rooms.
-pub fn close(state: &mut [u32], points: &mut [u32], edges: &mut [u32], marks: &mut [u8]) -> Closed
+// The closing of a run: the points of the last layer, into lent rooms. Answers how many they are.
+pub fn close(
+    state: &mut [u32],
+    points: &mut [u32],
+    edges: &mut [u32],
+    marks: &mut [u8],
+) -> Result<u32, Refusal>
     ensures { let before = rooms points.old edges.old marks.old [] in
         let after = rooms points.new edges.new marks.new [] in
-        Closes before state.old (left result.number result.points 0 after state.new) }
+        Closes before state.old (closing_answered result after state.new) }
 {
     if state.len() != STATE_LENGTH {
-        return not_closed(3);
+        return Err(Refusal::Room);
     }
     let head = layerstate::read_head(state);
     if !layerstate::is_state(head) {
-        return not_closed(1);
+        return Err(Refusal::Side);
     }
     if layerstate::is_early(head) {
-        return not_closed(CLOSED_EARLY);
+        return Err(Refusal::Closing);
     }
     close_over(head, state, points, edges, marks)
 }

@@ -5,11 +5,11 @@ use Prim.Native.Nat.{ℕ, ◌*◌, ◌-◌, ◌≤◌}
 use native.Mathlib.Nat.{mul-one}
 use native.Mathlib.Omega.{arith}
 use lib.ListN.{length}
-use Rattle.masks.specs.Masks.{row_words, Masked}
+use Rattle.masks.specs.Masks.{Masked}
 use Rattle.layerstate.specs.State.{most_layer, kept_in}
 use Rattle.layerstate.proofs.Kept.{layer_most, length_kept}
 use Rattle.layers.specs.Outcome.{closing_measured}
-use Rattle.layers.proofs.Frames.{kept_lent, sides_fit_lem, words_fit, given_of, last_handed}
+use Rattle.layers.proofs.Frames.{kept_lent, sides_fit_lem, given_of, last_handed}
 use Rattle.layers.proofs.close_over.Goals as goal
 use Rattle.layers.proofs.close_over.Goals.{After-frame-sides}
 
@@ -28,25 +28,6 @@ sides_most c = layer_most (sides_fit_lem c.args.head _ c.frame-sides.result c.fr
 long : (c : After-frame-sides) → length (kept c) ≡ each c
 long c = length_kept c.args.state.now (each c) (omega (arith, c.requires.head_value.1, sides_most c))
 
-one_layer : (c : After-frame-sides) → let sides = c.frame-sides.result in row_words sides.nx * (sides.ny * 1) ≡ row_words sides.nx * sides.ny
-one_layer c = let sides = c.frame-sides.result in ap (λ k. row_words sides.nx * k) (mul-one sides.ny)
-
-pub overflow_mul-past : goal.overflow_mul-past
-overflow_mul-past c = omega (arith, sides_most (goal.at.overflow_mul-past c).After-frame-sides)
-
-pub overflow_add-past : goal.overflow_add-past
-overflow_add-past c = omega (arith, sides_most (goal.at.overflow_add-past c).After-frame-sides)
-
-pub fill-requires : goal.fill-requires
-fill-requires c =
-    let sides = c.frame-sides.result in
-    let fit = sides_fit_lem c.args.head _ sides c.frame-sides.ensures c.requires.sides_fit.0 in (
-      fit.least_x,
-      omega (arith, fit.most_x),
-      omega (arith, one_layer (goal.at.fill-requires c).After-frame-sides, words_fit c.args.head _ sides c.frame-sides.ensures c.requires.sides_fit.0 1 (omega arith)),
-      ap length (kept_lent c.args.state.now (each (goal.at.fill-requires c).After-frame-sides)) ∙ long (goal.at.fill-requires c).After-frame-sides,
-    )
-
 pub hand_last-requires : goal.hand_last-requires
 hand_last-requires c =
     let framed = c.frame-sides.ensures in
@@ -61,18 +42,6 @@ hand_last-requires c =
     }
 
 -- the call of `hand_last`, from the end
-
-pub shape_of-state : goal.shape_of-state
-shape_of-state c = c.hand_last.auto.state
-
-pub shape_of-points : goal.shape_of-points
-shape_of-points c = c.hand_last.auto.points
-
-pub shape_of-edges : goal.shape_of-edges
-shape_of-edges c = c.hand_last.auto.edges
-
-pub shape_of-marks : goal.shape_of-marks
-shape_of-marks c = c.hand_last.auto.marks
 
 pub returns : goal.returns
 returns c =

@@ -13,7 +13,6 @@ use Rattle.edgepoints.specs.EdgePoint.{point_rooms}
 use Rattle.pointplaces.specs.Places.{Given}
 use Rattle.layerstate.specs.State.{kept_in, closed_room}
 use Rattle.layerstate.specs.Heads.{head_in}
-use Rattle.layerstate.proofs.Kept.{layer_most}
 use Rattle.layerparts.specs.Layer.{Handed, last_layer}
 use Rattle.layerparts.specs.Parts.{too_many, word_edges, lent_edges, points_laid}
 use Rattle.layerparts.proofs.Most.{few_of}
@@ -21,7 +20,7 @@ use Rattle.layerparts.proofs.Said.{edges_said}
 use Rattle.layers.specs.Outcome.{Rooms, point_room}
 use Rattle.layers.specs.Promise.{rooms}
 use Rattle.layers.proofs.Frames.{kept_lent}
-use Rattle.layers.proofs.Ways.{last_refused, last_granted, nothing_left, all_left, room_for, many_same}
+use Rattle.layers.proofs.Ways.{last_refused, last_granted, all_left, room_for, many_same}
 use Rattle.layers.proofs.hand_last.Goals as goal
 use Rattle.layers.proofs.hand_last.Goals.{After-exceeds}
 
@@ -54,22 +53,11 @@ tested : (c : After-exceeds)
     too_many most_points (head_in a.state.now).points (point_room (lent a.points.now a.edges.now a.marks.now)) (length (handed a.sides a.grey a.state.now).edges) ≡ c.exceeds.result
 tested c = sym (c.exceeds.ensures ∙ many_same most_points (ap (λ h. h.points) c.requires.head_value.0) c.point_room-room.ensures (found_is c))
 
-pub count_points-found-requires : goal.count_points-found-requires
-count_points-found-requires c = record { ready = c.requires.given.ready; below_lt_nz = c.requires.below_lt_nz }
-
 pub returns-then-exceeds : goal.returns-then-exceeds
 returns-then-exceeds c =
     let a = c.args in
     let room = lent a.points.now a.edges.now a.marks.now in
-    nothing_left room a.state.now c.not_closed.ensures.0 c.not_closed.ensures.1 refl
-    ∙ last_refused room a.state.now (handed a.sides a.grey a.state.now) (tested (goal.at.returns-then-exceeds c).After-exceeds ∙ c.if-exceeds.true)
-
--- the kept layer stands in the state
-pub overflow_mul-past : goal.overflow_mul-past
-overflow_mul-past c = omega (arith, layer_most c.requires.given.ready.fit)
-
-pub overflow_add-past : goal.overflow_add-past
-overflow_add-past c = omega (arith, layer_most c.requires.given.ready.fit)
+    last_refused room a.state.now (handed a.sides a.grey a.state.now) (tested (goal.at.returns-then-exceeds c).After-exceeds ∙ c.if-exceeds.true)
 
 -- where the points are not too many there is room
 pub hand_points-requires : goal.hand_points-requires
@@ -83,25 +71,6 @@ hand_points-requires c =
       below_lt_nz = c.requires.below_lt_nz;
       rooms_for = room_for room _ (omega (arith, ap length (edges_are a.sides a.grey a.state.now a.masks.now c.requires.given c.requires.below_lt_nz), few.1));
     }
-
-pub write_closed-requires : goal.write_closed-requires
-write_closed-requires c =
-    let a = c.args in
-    let out = handed a.sides a.grey a.state.now in
-    let few = few_of most_points (head_in a.state.now).points (point_room (lent a.points.now a.edges.now a.marks.now)) (length out.edges) (tested (goal.at.write_closed-requires c).After-exceeds ∙ c.if-exceeds.false) in
-    record { state_len = c.requires.head_value.1; points_bound = omega (arith, found_is (goal.at.write_closed-requires c).After-exceeds, few.0) }
-
-pub shape_of-state : goal.shape_of-state
-shape_of-state c = c.write_closed.auto.state
-
-pub shape_of-points : goal.shape_of-points
-shape_of-points c = c.hand_points.auto.points
-
-pub shape_of-edges : goal.shape_of-edges
-shape_of-edges c = c.hand_points.auto.edges
-
-pub shape_of-marks : goal.shape_of-marks
-shape_of-marks c = c.hand_points.auto.marks
 
 pub returns : goal.returns
 unfolding last_layer lent_edges points_laid

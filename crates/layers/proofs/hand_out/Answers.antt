@@ -5,6 +5,8 @@ use mathlib.Core.Bool.{false}
 use Prim.Native.Nat.{◌<◌, ℕ, ◌+◌, ◌*◌, ◌≤◌}
 use native.Mathlib.Omega.{arith}
 use lib.ListN.{length}
+use Rattle.std.proofs.lemmas.Result.{err_from_is_err_and}
+use Rattle.grid.proofs.Refused.{never_0}
 use Rattle.laws.specs.Room.{laid}
 use Rattle.laws.specs.Mesh.{flat}
 use Rattle.grid.specs.Limits.{most_points, most_triangles}
@@ -14,7 +16,6 @@ use Rattle.edgepoints.specs.EdgePoint.{point_rooms}
 use Rattle.pointplaces.specs.Places.{Given}
 use Rattle.layerstate.specs.State.{kept_in, layered_room}
 use Rattle.layerstate.specs.Heads.{head_in}
-use Rattle.layerstate.proofs.Kept.{layer_most}
 use Rattle.layerparts.specs.Layer.{Handed, layer_through}
 use Rattle.layerparts.specs.Parts.{too_many, word_edges, triangle_count, lent_edges, points_laid, refusal_for}
 use Rattle.layerparts.proofs.Most.{few_of, not_refused}
@@ -22,9 +23,9 @@ use Rattle.layerparts.proofs.Said.{edges_said, triangles_said}
 use Rattle.layers.specs.Outcome.{Rooms, point_room, triangle_room}
 use Rattle.layers.specs.Promise.{rooms}
 use Rattle.layers.proofs.Frames.{pair_lent}
-use Rattle.layers.proofs.Ways.{layer_refused, layer_granted, nothing_left, all_left, room_for, refusal_same}
+use Rattle.layers.proofs.Ways.{layer_refused, layer_granted, all_left, room_for, refusal_same}
 use Rattle.layers.proofs.hand_out.Goals as goal
-use Rattle.layers.proofs.hand_out.Goals.{After-refusal-number, After-hand_points-found, After-hand_triangles-made}
+use Rattle.layers.proofs.hand_out.Goals.{After-check_fits, After-hand_points-found, After-hand_triangles-made}
 
 -- the rooms as they are lent
 abbrev lent : List ℕ → List ℕ → List ℕ → List ℕ → Rooms
@@ -47,16 +48,16 @@ module _ (sides : Sides) (grey : ℕ) (state layer masks : List ℕ) (given : Gi
   unfolding layer_through triangle_count
   triangles_are = ap length (triangles_said sides grey (pair sides state layer) masks given (omega (arith, below)) below)
 
--- what the call of `refusal` says
-refusal_is : (c : After-refusal-number)
+-- what the call of `check_fits` says, it says of what is to be handed out
+refusal_is : (c : After-check_fits)
     → let a = c.args in
     let room = lent a.points.now a.edges.now a.marks.now a.triangles.now in
     let out = handed a.sides a.grey a.state.now a.layer.now in
-    c.refusal-number.result ≡ refusal_for (head_in a.state.now) (point_room room) (triangle_room room) (length out.edges) (length out.triangles)
+    refusal_for a.head c.point_room-room.result (triangle_room room) (length (word_edges a.sides a.masks.now)) (triangle_count a.sides a.masks.now)
+    ≡ refusal_for (head_in a.state.now) (point_room room) (triangle_room room) (length out.edges) (length out.triangles)
 refusal_is c =
     let a = c.args in
-    c.refusal-number.ensures
-    ∙ refusal_same (triangle_room (lent a.points.now a.edges.now a.marks.now a.triangles.now)) c.requires.head_value c.point_room-room.ensures
+    refusal_same (triangle_room (lent a.points.now a.edges.now a.marks.now a.triangles.now)) c.requires.head_value c.point_room-room.ensures
     (ap length (edges_are a.sides a.grey a.state.now a.layer.now a.masks.now c.requires.given c.requires.below_bound))
     (triangles_are a.sides a.grey a.state.now a.layer.now a.masks.now c.requires.given c.requires.below_bound)
 
@@ -73,29 +74,20 @@ module _ (room : Rooms) (state : List ℕ) (out : Handed)
   few_triangles : ((head_in state).triangles + length out.triangles ≤ most_triangles) × (length out.triangles ≤ triangle_room room)
   few_triangles = few_of most_triangles (head_in state).triangles (triangle_room room) (length out.triangles) few.1
 
-pub refusal-number-requires : goal.refusal-number-requires
-refusal-number-requires c = record { ready = c.requires.given.ready; below_bound = c.requires.below_bound }
-
-pub returns-then-number-ne0 : goal.returns-then-number-ne0
-returns-then-number-ne0 c =
+pub returns-in_err-check_fits : goal.returns-in_err-check_fits
+returns-in_err-check_fits c =
     let a = c.args in
     let room = lent a.points.now a.edges.now a.marks.now a.triangles.now in
-    let is = refusal_is (goal.at.returns-then-number-ne0 c).After-refusal-number in
-    nothing_left room a.state.now (c.nothing.ensures.0 ∙ is) c.nothing.ensures.1 c.nothing.ensures.2
-    ∙ layer_refused room a.state.now a.layer.now (handed a.sides a.grey a.state.now a.layer.now) (λ none. c.if-number-ne0.true (is ∙ none))
-
--- the kept layer stands in the state
-pub overflow_mul-past : goal.overflow_mul-past
-overflow_mul-past c = omega (arith, layer_most c.requires.given.ready.fit)
-
-pub overflow_add-past : goal.overflow_add-past
-overflow_add-past c = omega (arith, layer_most c.requires.given.ready.fit)
+    let e = c.in_err-check_fits.field-0.0 in
+    let is = c.in_err-check_fits.ensures ∙ refusal_is (goal.at.returns-in_err-check_fits c).After-check_fits in
+    let p = err_from_is_err_and c.from_residual.result c.from_residual.ensures.1 in
+    rw (p.1, p.2, is) (layer_refused room a.state.now a.layer.now (handed a.sides a.grey a.state.now a.layer.now) (λ none. never_0 e (is ∙ none)))
 
 pub hand_points-found-requires : goal.hand_points-found-requires
 hand_points-found-requires c =
     let a = c.args in
     let room = lent a.points.now a.edges.now a.marks.now a.triangles.now in
-    let none = sym (refusal_is (goal.at.hand_points-found-requires c).After-refusal-number) ∙ c.if-number-ne0.false in
+    let none = sym (c.in_ok-check_fits.ensures ∙ refusal_is (goal.at.hand_points-found-requires c).After-check_fits) in
     record {
       given = subst (λ samples. Given a.sides a.sides.below a.grey samples a.masks.now) (sym (pair_lent a.state.now (a.sides.nx * a.sides.ny) a.layer.now)) c.requires.given;
       below_lt_nz = omega (arith, c.requires.below_bound);
@@ -107,7 +99,7 @@ pub hand_triangles-made-requires : goal.hand_triangles-made-requires
 hand_triangles-made-requires c =
     let a = c.args in
     let room = lent a.points.now a.edges.now a.marks.now a.triangles.now in
-    let none = sym (refusal_is (goal.at.hand_triangles-made-requires c).After-refusal-number) ∙ c.if-number-ne0.false in
+    let none = sym (c.in_ok-check_fits.ensures ∙ refusal_is (goal.at.hand_triangles-made-requires c).After-check_fits) in
     record {
       ready = c.requires.given.ready;
       below_bound = c.requires.below_bound;
@@ -132,7 +124,7 @@ write_layered-requires c =
     let a = c.args in
     let room = lent a.points.now a.edges.now a.marks.now a.triangles.now in
     let out = handed a.sides a.grey a.state.now a.layer.now in
-    let none = sym (refusal_is (goal.at.write_layered-requires c).After-refusal-number) ∙ c.if-number-ne0.false in
+    let none = sym (c.in_ok-check_fits.ensures ∙ refusal_is (goal.at.write_layered-requires c).After-check_fits) in
     let h = c.requires.head_value in
     let l = c.requires.state_len in
     record {
@@ -141,21 +133,6 @@ write_layered-requires c =
       points_bound = omega (arith, found_is (goal.at.write_layered-requires c).After-hand_points-found, (few_points room a.state.now out none).0);
       triangles_bound = omega (arith, made_is (goal.at.write_layered-requires c).After-hand_triangles-made, (few_triangles room a.state.now out none).0);
     }
-
-pub shape_of-state : goal.shape_of-state
-shape_of-state c = c.write_layered.auto.state
-
-pub shape_of-points : goal.shape_of-points
-shape_of-points c = c.hand_points-found.auto.points
-
-pub shape_of-edges : goal.shape_of-edges
-shape_of-edges c = c.hand_points-found.auto.edges
-
-pub shape_of-marks : goal.shape_of-marks
-shape_of-marks c = c.hand_points-found.auto.marks
-
-pub shape_of-triangles : goal.shape_of-triangles
-shape_of-triangles c = c.hand_triangles-made.auto.triangles
 
 pub returns : goal.returns
 unfolding layer_through lent_edges points_laid
@@ -170,4 +147,4 @@ returns c =
     all_left room a.state.now out found made (ap (λ r. r.points) put) (ap (λ r. r.edges) put) (ap (λ r. r.marks) put)
     (c.hand_triangles-made.ensures.laid ∙ ap (λ ts. laid (flat ts) a.triangles.now) same)
     (c.write_layered.ensures ∙ ap₂ (λ f m. layered_room a.layer.now f m a.state.now) found made)
-    ∙ layer_granted room a.state.now a.layer.now out (sym (refusal_is (goal.at.returns c).After-refusal-number) ∙ c.if-number-ne0.false)
+    ∙ layer_granted room a.state.now a.layer.now out (sym (c.in_ok-check_fits.ensures ∙ refusal_is (goal.at.returns c).After-check_fits))

@@ -15,12 +15,6 @@ returns-then-state-ne-STATE_LENGTH c =
     let a = c.args in
     open_length a.nx a.ny a.nz a.grey a.state.now (sym c.sides_fit.ensures ∙ c.if-not-sides_fit.false) (ne_eqb _ _ c.if-state-ne-STATE_LENGTH.true)
 
-pub write_opened-requires : goal.write_opened-requires
-write_opened-requires c = c.if-state-ne-STATE_LENGTH.false
-
-pub shape_of-state : goal.shape_of-state
-shape_of-state c = c.write_opened.auto.state
-
 pub returns : goal.returns
 returns c =
     let a = c.args in

@@ -17,12 +17,6 @@ returns-then-head-gt-MOST_TRIANGLES c =
     first_triangles c.args.layer.now c.args.state.now (le-ltb most_points (head_in c.args.state.now).points (omega (arith, c.if-head-gt-MOST_POINTS.false, ap (λ h. h.points) c.requires.head_value)))
     (lt-ltb most_triangles (head_in c.args.state.now).triangles (omega (arith, c.if-head-gt-MOST_TRIANGLES.true, ap (λ h. h.triangles) c.requires.head_value)))
 
-pub write_layered-requires : goal.write_layered-requires
-write_layered-requires c = record { state_len = (c.requires.state_len.0, c.requires.state_len.1); taken_at_bound = omega (arith, ap (λ h. h.taken) c.requires.head_value, c.requires.state_len.2); points_bound = omega (arith, ap (λ h. h.points) c.requires.head_value, c.if-head-gt-MOST_POINTS.false); triangles_bound = omega (arith, ap (λ h. h.triangles) c.requires.head_value, c.if-head-gt-MOST_TRIANGLES.false) }
-
-pub shape_of-state : goal.shape_of-state
-shape_of-state c = c.write_layered.auto.state
-
 pub returns : goal.returns
 returns c =
     let room = c.args.state.now in

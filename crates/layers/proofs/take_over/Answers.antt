@@ -9,7 +9,7 @@ use Rattle.masks.specs.Masks.{Masked}
 use Rattle.layerstate.specs.State.{most_layer, kept_in}
 use Rattle.layerstate.proofs.Kept.{layer_most, length_kept}
 use Rattle.layers.specs.Outcome.{layer_measured}
-use Rattle.layers.proofs.Frames.{pair_lent, sides_fit_lem, words_fit, given_of, layer_handed}
+use Rattle.layers.proofs.Frames.{pair_lent, sides_fit_lem, given_of, layer_handed}
 use Rattle.layers.proofs.take_over.Goals as goal
 use Rattle.layers.proofs.take_over.Goals.{After-frame-sides}
 
@@ -38,22 +38,6 @@ long c =
       mul_assoc sides.nx sides.ny 2,
     )
 
-pub overflow_mul-past : goal.overflow_mul-past
-overflow_mul-past c = omega (arith, sides_most (goal.at.overflow_mul-past c).After-frame-sides)
-
-pub overflow_add-past : goal.overflow_add-past
-overflow_add-past c = omega (arith, sides_most (goal.at.overflow_add-past c).After-frame-sides)
-
-pub fill-requires : goal.fill-requires
-fill-requires c =
-    let sides = c.frame-sides.result in
-    let fit = sides_fit_lem c.args.head _ sides c.frame-sides.ensures c.requires.sides_fit.0 in (
-      fit.least_x,
-      omega (arith, fit.most_x),
-      words_fit c.args.head _ sides c.frame-sides.ensures c.requires.sides_fit.0 2 (omega arith),
-      ap length (pair_lent c.args.state.now (each (goal.at.fill-requires c).After-frame-sides) c.args.layer.now) ∙ long (goal.at.fill-requires c).After-frame-sides,
-    )
-
 pub hand_out-requires : goal.hand_out-requires
 hand_out-requires c =
     let t = c.requires.taken_nonzero in
@@ -64,21 +48,6 @@ hand_out-requires c =
     c.fill.ensures in record { given = given_of c.args.head _ sides framed c.requires.sides_fit.0 c.args.head.grey (pair (goal.at.hand_out-requires c).After-frame-sides) _ 2 _ (omega arith) (omega arith) (λ over. refl) refl (long (goal.at.hand_out-requires c).After-frame-sides) c.fill.auto.masks masked; below_bound = omega (arith, framed.below, framed.nz, t.0, t.1); head_value = c.requires.head_value; state_len = (c.requires.state_len.0, omega (arith, c.requires.state_len.1, layer_most c.requires.sides_fit.0), omega (arith, t.1, c.requires.sides_fit.0.most_z)) }
 
 -- the call of `hand_out`, from the end
-
-pub shape_of-state : goal.shape_of-state
-shape_of-state c = c.hand_out.auto.state
-
-pub shape_of-points : goal.shape_of-points
-shape_of-points c = c.hand_out.auto.points
-
-pub shape_of-edges : goal.shape_of-edges
-shape_of-edges c = c.hand_out.auto.edges
-
-pub shape_of-marks : goal.shape_of-marks
-shape_of-marks c = c.hand_out.auto.marks
-
-pub shape_of-triangles : goal.shape_of-triangles
-shape_of-triangles c = c.hand_out.auto.triangles
 
 pub returns : goal.returns
 returns c =

@@ -162,17 +162,3 @@ loop-h-preserved t c =
           }
     ] in
     next_half step b r c.args.count l.run c.if-step.run l.h c.args.found.now l.found c.if-step.found is c.loop-h-test.true l.invariant.1 l.invariant.2 l.invariant.3 done
-
-pub returns-clause-count : goal.returns-clause-count
-returns-clause-count t c =
-    let b = c.args.block in
-    let g = half (looked (step_at c.args.summary.now c.args.grey) (b.halvings - 1)) b.x b.y b.z in
-    let all : c.loop-h.h ≡ 8 = omega (arith, c.loop-h.invariant.0, c.loop-h-test.false) in
-    omega (arith, c.loop-h.invariant.1, ap (λ h. sum_to h g) all)
-
-pub returns-clause-words : goal.returns-clause-words
-returns-clause-words t c =
-    let b = c.args.block in
-    let step = step_at c.args.summary.now c.args.grey in
-    let all : c.loop-h.h ≡ 8 = omega (arith, c.loop-h.invariant.0, c.loop-h-test.false) in
-    subst (λ h. Marks c.args.found.now c.loop-h.found (found_in step (b.halvings - 1) b.x b.y b.z h)) all c.loop-h.invariant.3

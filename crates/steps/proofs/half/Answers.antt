@@ -15,26 +15,5 @@ overflow_mul-result c = omega (arith, (small (goal.at.overflow_mul-result c).Sta
 pub overflow_add-result : goal.overflow_add-result
 overflow_add-result c = omega (arith, (small (goal.at.overflow_add-result c).Start).fits, (small (goal.at.overflow_add-result c).Start).side, c.requires.block_fits.in_x, c.requires.block_fits.in_y, c.requires.block_fits.in_z)
 
-pub overflow_mul-result-2 : goal.overflow_mul-result-2
-overflow_mul-result-2 c = omega (arith, (small (goal.at.overflow_mul-result-2 c).Start).fits, (small (goal.at.overflow_mul-result-2 c).Start).side, c.requires.block_fits.in_x, c.requires.block_fits.in_y, c.requires.block_fits.in_z)
-
-pub overflow_mul-result-3 : goal.overflow_mul-result-3
-overflow_mul-result-3 c = omega (arith, (small (goal.at.overflow_mul-result-3 c).Start).fits, (small (goal.at.overflow_mul-result-3 c).Start).side, c.requires.block_fits.in_x, c.requires.block_fits.in_y, c.requires.block_fits.in_z)
-
-pub overflow_add-result-2 : goal.overflow_add-result-2
-overflow_add-result-2 c = omega (arith, (small (goal.at.overflow_add-result-2 c).Start).fits, (small (goal.at.overflow_add-result-2 c).Start).side, c.requires.block_fits.in_x, c.requires.block_fits.in_y, c.requires.block_fits.in_z)
-
-pub overflow_mul-result-4 : goal.overflow_mul-result-4
-overflow_mul-result-4 c = omega (arith, (small (goal.at.overflow_mul-result-4 c).Start).fits, (small (goal.at.overflow_mul-result-4 c).Start).side, c.requires.block_fits.in_x, c.requires.block_fits.in_y, c.requires.block_fits.in_z)
-
-pub overflow_add-result-3 : goal.overflow_add-result-3
-overflow_add-result-3 c = omega (arith, (small (goal.at.overflow_add-result-3 c).Start).fits, (small (goal.at.overflow_add-result-3 c).Start).side, c.requires.block_fits.in_x, c.requires.block_fits.in_y, c.requires.block_fits.in_z)
-
-pub overflow_mul-result-5 : goal.overflow_mul-result-5
-overflow_mul-result-5 c = omega (arith, (small (goal.at.overflow_mul-result-5 c).Start).fits, (small (goal.at.overflow_mul-result-5 c).Start).side, c.requires.block_fits.in_x, c.requires.block_fits.in_y, c.requires.block_fits.in_z)
-
-pub overflow_add-result-4 : goal.overflow_add-result-4
-overflow_add-result-4 c = omega (arith, (small (goal.at.overflow_add-result-4 c).Start).fits, (small (goal.at.overflow_add-result-4 c).Start).side, c.requires.block_fits.in_x, c.requires.block_fits.in_y, c.requires.block_fits.in_z)
-
 pub returns : goal.returns
 returns c = (refl, half_fits c.args.block c.args.h c.requires.block_fits c.requires.halvings_nonzero)

@@ -1,5 +1,5 @@
 -- `steps::look_at_cubes` meets its contract. The loop's invariant: the cubes before `which` are looked at, and the bits of those that were found are set.
-use mathlib.Core.Path.{◌≡◌, refl, ap, sym, subst, ◌∙◌}
+use mathlib.Core.Path.{◌≡◌, refl, ap, ◌∙◌}
 use mathlib.Core.Bool.{Bool, ◌||◌}
 use Prim.Native.Nat.{ℕ, ◌+◌, ◌*◌, ◌%◌, ◌^◌, ◌<◌}
 use native.Mathlib.Omega.{arith}
@@ -18,11 +18,6 @@ use Rattle.steps.proofs.look_at_cubes.Goals.{After-half-cube}
 pub loop-which-init : goal.loop-which-init
 loop-which-init c = (omega arith, omega arith, c.requires.found_len, in_none _ 0 _ _ _ c.args.found.now)
 
--- in a turn: the block, and the cube that is looked at
-
-pub half-cube-requires : goal.half-cube-requires
-half-cube-requires c = record { block_fits = c.requires.block_fits.0; halvings_nonzero = omega (arith, c.requires.block_fits.1); h_bound = c.loop-which-test.true }
-
 -- the cube stands within the whole block
 record Inside (x y z : ℕ) : Type 0 where
   in_x : x < most_side
@@ -33,37 +28,6 @@ inside : (c : After-half-cube) → Inside c.half-cube.result.x c.half-cube.resul
 inside c =
     let side = (block_small c.half-cube.result c.half-cube.ensures.1).side in
     record { in_x = omega (arith, c.half-cube.ensures.1.in_x, side); in_y = omega (arith, c.half-cube.ensures.1.in_y, side); in_z = omega (arith, c.half-cube.ensures.1.in_z, side) }
-
-pub step_at-step-requires : goal.step_at-step-requires
-step_at-step-requires c = record { block_fits = c.half-cube.ensures.1; summary_len = c.requires.summary_len; count_bound = omega (arith, c.loop-which.invariant.0, c.loop-which.invariant.1, c.requires.count_bound, c.loop-which-test.true) }
-
-pub overflow_mul-row : goal.overflow_mul-row
-overflow_mul-row c = let i = inside (goal.at.overflow_mul-row c).After-half-cube in omega (arith, i.in_x, i.in_y, i.in_z)
-
-pub overflow_add-row : goal.overflow_add-row
-overflow_add-row c = let i = inside (goal.at.overflow_add-row c).After-half-cube in omega (arith, i.in_x, i.in_y, i.in_z)
-
-pub offset_bounds-found-row : goal.offset_bounds-found-row
-offset_bounds-found-row c = let i = inside (goal.at.offset_bounds-found-row c).After-half-cube in omega (arith, i.in_x, i.in_y, i.in_z)
-
-pub bounds-found-row : goal.bounds-found-row
-bounds-found-row c = let i = (let it : Inside c.half-cube.result.x c.half-cube.result.y c.half-cube.result.z = let side = (block_small c.half-cube.result c.half-cube.ensures.1).side in
-    record { in_x = omega (arith, c.half-cube.ensures.1.in_x, side); in_y = omega (arith, c.half-cube.ensures.1.in_y, side); in_z = omega (arith, c.half-cube.ensures.1.in_z, side) } in it) in omega (arith, i.in_y, i.in_z, c.loop-which.invariant.2)
-
-pub overflow_shl-found : goal.overflow_shl-found
-overflow_shl-found c = let i = inside (goal.at.overflow_shl-found c).After-half-cube in omega (arith, i.in_x, i.in_y, i.in_z)
-
-pub offset_bounds-found-row-in-loop-which : goal.offset_bounds-found-row-in-loop-which
-offset_bounds-found-row-in-loop-which c = let i = inside (goal.at.offset_bounds-found-row-in-loop-which c).After-half-cube in omega (arith, i.in_x, i.in_y, i.in_z)
-
-pub bounds-found-row-in-loop-which : goal.bounds-found-row-in-loop-which
-bounds-found-row-in-loop-which c = let i = inside (goal.at.bounds-found-row-in-loop-which c).After-half-cube in omega (arith, i.in_y, i.in_z, c.loop-which.invariant.2)
-
-pub overflow_step-which : goal.overflow_step-which
-overflow_step-which c = omega (arith, c.loop-which-test.true)
-
-pub loop-which-smaller : goal.loop-which-smaller
-loop-which-smaller c = omega (arith, c.loop-which-test.true)
 
 pub loop-which-preserved : goal.loop-which-preserved
 loop-which-preserved c =
@@ -91,11 +55,3 @@ loop-which-preserved c =
           (marks_more a.found.now l.found next before halfFound l.invariant.3
           (marks_same l.found next (found_from step 0 cube.x cube.y cube.z) halfFound here marked)),
     )
-
-pub shape_of-found : goal.shape_of-found
-shape_of-found c = c.loop-which.invariant.2 ∙ sym c.requires.found_len
-
-pub returns : goal.returns
-returns c =
-    let l = c.loop-which in
-    let all : l.which ≡ 8 = omega (arith, l.invariant.0, c.loop-which-test.false) in record { count = omega (arith, l.invariant.1, all); words = subst (λ k. Marks c.args.found.now l.found (found_in (step_at c.args.summary.now c.args.grey) 0 c.args.block.x c.args.block.y c.args.block.z k)) all l.invariant.3 }

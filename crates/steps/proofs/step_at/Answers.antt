@@ -12,21 +12,6 @@ use Rattle.steps.proofs.step_at.Goals.{Start}
 small : (c : Start) → BlockSmall c.args.block
 small c = block_small c.args.block c.requires.block_fits
 
-pub overflow_mul-place : goal.overflow_mul-place
-overflow_mul-place c = omega (arith, (small (goal.at.overflow_mul-place c).Start).fits, (small (goal.at.overflow_mul-place c).Start).layers, (small (goal.at.overflow_mul-place c).Start).rows, c.requires.block_fits.in_y, (small (goal.at.overflow_mul-place c).Start).side)
-
-pub overflow_add-place : goal.overflow_add-place
-overflow_add-place c = omega (arith, (small (goal.at.overflow_add-place c).Start).fits, (small (goal.at.overflow_add-place c).Start).layers, (small (goal.at.overflow_add-place c).Start).rows, c.requires.block_fits.in_y, (small (goal.at.overflow_add-place c).Start).side)
-
-pub overflow_mul-place-2 : goal.overflow_mul-place-2
-overflow_mul-place-2 c = omega (arith, (small (goal.at.overflow_mul-place-2 c).Start).fits, (small (goal.at.overflow_mul-place-2 c).Start).layers, (small (goal.at.overflow_mul-place-2 c).Start).rows, c.requires.block_fits.in_y, (small (goal.at.overflow_mul-place-2 c).Start).side)
-
-pub overflow_add-place-2 : goal.overflow_add-place-2
-overflow_add-place-2 c = omega (arith, (small (goal.at.overflow_add-place-2 c).Start).fits, (small (goal.at.overflow_add-place-2 c).Start).layers, (small (goal.at.overflow_add-place-2 c).Start).rows, c.requires.block_fits.in_y, (small (goal.at.overflow_add-place-2 c).Start).side)
-
-pub overflow_mul-place-3 : goal.overflow_mul-place-3
-overflow_mul-place-3 c = omega (arith, (small (goal.at.overflow_mul-place-3 c).Start).fits, (small (goal.at.overflow_mul-place-3 c).Start).layers, (small (goal.at.overflow_mul-place-3 c).Start).rows, c.requires.block_fits.in_y, (small (goal.at.overflow_mul-place-3 c).Start).side)
-
 pub overflow_add-place-3 : goal.overflow_add-place-3
 overflow_add-place-3 c = omega (arith, (small (goal.at.overflow_add-place-3 c).Start).fits, (small (goal.at.overflow_add-place-3 c).Start).layers, (small (goal.at.overflow_add-place-3 c).Start).rows, c.requires.block_fits.in_y, (small (goal.at.overflow_add-place-3 c).Start).side)
 
