@@ -26,7 +26,7 @@ use Rattle.printing.specs.SmallMesh.{mesh_of, SmallMesh}
 use Rattle.small.specs.Promise.{SmallGrid}
 use Rattle.small.proofs.Steps.{RoomsHold, points_few, triangles_few, extract_granted}
 
-module _ (h : Head) (samples : List ℕ) (small : SmallGrid p samples) where
+module _ (h : Head) (samples : List ℕ) (small : SmallGrid h samples) where
   pub smoothing_fits_lem : (h.rounds ≤ most_rounds) × (h.weight ≤ most_weight)
   smoothing_fits_lem =
       let b = both (leb h.rounds most_rounds) (leb h.weight most_weight) (passed h small.0).2 in
@@ -41,7 +41,7 @@ module _ (h : Head) (samples : List ℕ) (small : SmallGrid p samples) where
         let c = passed h small.0 in
         extracts ∙ extract_granted h.nx h.ny h.nz h.grey samples before c.0 c.1 small.1 hold
 
-    none : after.number ≡ 0
+    pub none : after.number ≡ 0
     unfolding granted
     none = ap (λ o. o.number) left_is
 

@@ -15,7 +15,7 @@ use Rattle.gridtext.specs.Promise.{left}
 use Rattle.gridtext.specs.declared.Head.{Head}
 use Rattle.gridtext.proofs.Checks.{passed, rows_few}
 use Rattle.gridtext.proofs.GridTexts.{Taken, grid_taken}
-use Rattle.small.specs.Answer.{smoothed_mesh, grid_edges, parsed, Answers, printed, refused}
+use Rattle.small.specs.Answer.{smoothed_mesh, grid_edges, Answers, printed, refused}
 use Rattle.printing.specs.Prints.{Prints}
 use Rattle.small.specs.Promise.{SmallGrid}
 

@@ -7,9 +7,8 @@ ghost use Rattle.small.specs.Promise.{SmallGrid};
 
 use grid::limits::MOST_SMALL;
 use gridtext::Head;
-use printing::write_smoothed;
-use printing::zeros;
 use printing::zeros::{MOST_SMALL_COORDINATES, MOST_SMALL_CORNERS, MOST_SMALL_POINTS};
+use printing::{write_smoothed, zeros};
 
 // Extracts the mesh of a grid and writes its text.
 fn write_grid(head: Head, samples: &[u16], output: &mut [u8]) -> usize

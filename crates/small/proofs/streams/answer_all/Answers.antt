@@ -18,4 +18,4 @@ answers_all (Ok x) None old new read room text l b t h = tt
 answers_all (Err e) given old new read room text l b t h = tt
 
 pub returns : goal.returns
-returns g c = answers_all c.write_all.result _ _ _ _ _ _ c.room-room.ensures c.in_ok-filled.ensures.bytes c.answer-length.ensures.text c.write_all.ensures.bytes
+returns g c = answers_all c.write_all.result _ _ _ _ _ _ (sym c.room-room.ensures) c.in_ok-filled.ensures.bytes c.answer-length.ensures.text c.write_all.ensures.bytes
