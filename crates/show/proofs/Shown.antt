@@ -1,4 +1,4 @@
--- What the call that shows a point answers, refusal by refusal.
+-- What a granted call that shows a point hands out, and what a caller in C holds after any call.
 use mathlib.Core.Path.{◌≡◌, refl, sym, ◌∙◌}
 use mathlib.Core.List.{List, [], ◌∷◌}
 use mathlib.Core.Bool.{Bool, true, false, cond, not, ◌&&◌}
