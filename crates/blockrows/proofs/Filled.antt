@@ -1,5 +1,5 @@
--- A row of a known length that is filled with the values of a function from the front: none yet, one more, and all.
-use mathlib.Core.Path.{◌≡◌, ap, sym, ◌∙◌}
+-- A row of a known length that is filled with the values of a function from the front: none yet, and one more.
+use mathlib.Core.Path.{◌≡◌, sym, ◌∙◌}
 use mathlib.Core.List.{List}
 use Prim.Native.Nat.{ℕ, ◌+◌, ◌<◌}
 use native.Mathlib.Omega.{arith}
@@ -25,5 +25,3 @@ module _ {A : Type 0} {n : ℕ} {f : ℕ → A} {had : List A} where
     is = rw (filled.is, here) (laid_more i f had (omega arith));
   }
 
-  pub filled_all : {i m : ℕ} {row : List A} → i ≡ m → Filled n f had i row → row ≡ laid (list_to m f) had
-  filled_all end filled = filled.is ∙ ap (λ k. laid (list_to k f) had) end

@@ -21,6 +21,7 @@ use grid::refusal::Refusal;
 use layerstate::Head;
 use pointplaces::places::place_layer;
 use rows::Sides;
+use triangles::Tables;
 
 // Triangles of a cube at most.
 const CASE_TRIANGLES: u32 = MOST_CASE_TRIANGLES as u32;
@@ -120,15 +121,11 @@ pub fn hand_triangles(sides: Sides, masks: &[u64], triangles: &mut [u32]) -> u32
     ensures laid { triangles.new ≡ laid (flat (layer_triangles (size_of sides) (words_above sides masks.now) sides.below)) triangles.old }
 {
     let z = sides.below;
-    let table = cube::rows();
-    let counts = cube::counts();
-    let offsets = triangles::edge_offsets(sides.nx, sides.ny);
+    let tables = Tables::new(sides.nx, sides.ny);
     let none_found = [0u64; 0];
     let numbers = [0u32; 0];
     let end = triangles::write_layer(
-        &table,
-        &counts,
-        &offsets,
+        &tables,
         masks,
         &none_found,
         &numbers,

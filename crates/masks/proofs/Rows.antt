@@ -1,5 +1,5 @@
 -- The words of a row, one after the other; of row after row; and of all rows, batch after batch.
-use mathlib.Core.Path.{◌≡◌, refl, ap, sym, subst, ◌∙◌}
+use mathlib.Core.Path.{◌≡◌, ap, sym, subst, ◌∙◌}
 use mathlib.Core.List.{List}
 use mathlib.Core.Bool.{Bool, cond}
 use Prim.Native.Nat.{ℕ, ◌+◌, ◌*◌, ◌-◌, ◌/◌, ◌<◌, ◌≤◌}
@@ -31,10 +31,6 @@ pub record WordsTo (flags : List ℕ) (nx at from to : ℕ) (entry exit : List �
   pub before : (k : ℕ) → k < from → get_or exit k 0 ≡ get_or entry k 0
 
 module _ {flags : List ℕ} {nx at from : ℕ} {entry : List ℕ} where
-  -- no word yet
-  pub words_none : WordsTo flags nx at from from entry entry
-  words_none = record { words = λ w i l. absurd (omega arith); before = λ k l. refl }
-
   -- one word more, with all samples that are left or as many as a word has
   pub words_next : {exit : List ℕ} {to mask : ℕ} (left many : ℕ) → from ≤ to → nx ≡ word_cubes * (to - from) + left → to < length exit
       → ((i : ℕ) → i < word_bits → i < left → i < gathered many) → mask ≡ flag_mask flags (at + (nx - left)) (gathered many)

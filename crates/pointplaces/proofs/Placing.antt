@@ -11,14 +11,14 @@ use Rattle.laws.proofs.Keep.{keep_all, keep_no, keep_one, keep_on}
 use Rattle.laws.proofs.Lists.{flat_map_lem}
 use Rattle.laws.proofs.Ranges.{length_flat}
 use Rattle.laws.proofs.Writes.{sets_front, flat_sets, map_sets}
-use Rattle.grid.specs.Grid.{Size, axes, edge_count, mark, on_face}
+use Rattle.grid.specs.Grid.{axes, edge_count, mark, on_face}
 use Rattle.grid.specs.Point.{point_edges, place, place_from}
 use Rattle.rows.specs.declared.Sides.{Sides}
 use Rattle.rows.specs.declared.Cuts.{Cuts}
 use Rattle.edgepoints.specs.declared.Point.{Point}
 use Rattle.rows.specs.Rows.{size_of, words_above, grid_samples, cut, next_number}
 use Rattle.rows.proofs.Busy.{Tested}
-use Rattle.edgepoints.specs.EdgePoint.{PointRooms, coordinates, placed_from, with_placed, point_by, point_from, RoomsFor, Placeable}
+use Rattle.edgepoints.specs.EdgePoint.{PointRooms, coordinates, placed_from, with_placed, point_by, point_from, RoomsFor}
 use Rattle.pointplaces.specs.Places.{point_of, point_at, crossings, number_past, SamplePlaced, Placed}
 
 -- room for more is room for fewer, and rooms that keep their lengths keep their room
@@ -32,20 +32,6 @@ pub record SameLengths (before after : PointRooms) : Type 0 where
 
 pub room_kept : {count : ℕ} {before after : PointRooms} → SameLengths before after → RoomsFor count before → RoomsFor count after
 room_kept same fits = record { points = omega (arith, fits.points); edges = omega (arith, fits.edges); marks = omega (arith, fits.marks) }
-
--- what it takes to place a point stands when another edge was passed
-pub still_placeable : (size : Size) (samples : List ℕ) (place axis n next : ℕ) (before after : PointRooms) → SameLengths before after → next ≡ n
-    → Placeable size samples place axis n before → Placeable size samples place axis next after
-still_placeable size samples place axis n next before after same is able =
-    rw is record { there = able.there; differ = able.differ; room = room_kept same able.room }
-
--- the three edges of a sample one after the other
-pub sample_steps : (sides : Sides) (grey : ℕ) (samples : List ℕ) (s n : ℕ) (cuts : Cuts) (r : PointRooms) (x y z : ℕ) (past_x past_y past_z : PointRooms)
-    → x ≡ next_number cuts.x n → past_x ≡ with_placed cuts.x n (point_of sides grey samples s 0) r
-    → y ≡ next_number cuts.y x → past_y ≡ with_placed cuts.y x (point_of sides grey samples s 1) past_x
-    → z ≡ next_number cuts.z y → past_z ≡ with_placed cuts.z y (point_of sides grey samples s 2) past_y
-    → SamplePlaced sides grey samples s n z cuts r past_z
-sample_steps sides grey samples s n cuts r x y z past_x past_y past_z nx px ny py nz pz = record { counted = cc; placed = cc }
 
 -- no points, and points written after others
 written_none : (r : PointRooms) (n : ℕ) → r ≡ placed_from r n []

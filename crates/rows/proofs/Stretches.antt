@@ -21,7 +21,7 @@ use Rattle.grid.proofs.Sites.{site_small}
 use Rattle.masks.specs.Masks.{word_cubes, row_words, last_samples, mask_above, most_words, Agreeing, AllSet}
 use Rattle.rows.specs.declared.Sides.{Sides}
 use Rattle.rows.specs.declared.Stretch.{Stretch}
-use Rattle.rows.specs.Rows.{SidesOf, Whole, Ready, words_above, grid_samples, Stands, Addable, size_of, layer_first, first_x, own_samples, own_cubes, samples_mask, cubes_mask, first_stretch, next_stretch}
+use Rattle.rows.specs.Rows.{SidesOf, Whole, Ready, words_above, grid_samples, Stands, size_of, layer_first, first_x, own_samples, own_cubes, samples_mask, cubes_mask, first_stretch, next_stretch}
 
 -- a grid within the limits has few edges, and few words
 pub edges_few : (sides : Sides) → SidesFit sides.nx sides.ny sides.nz → edge_count axes (size_of sides) ≤ most_edges
@@ -211,21 +211,9 @@ module _ (sides : Sides) (z : ℕ) (at : Stretch) (stands : Stands sides z at) w
       rw (← stands.each) (low_lt stands.past sides.words r (sides.ny * layers) (omega (arith, stands.each, stands.along, stands.some)) there)
 
   module _ (hy : at.y < sides.ny) (hz : z < sides.nz) where
-    word_few : at.word < row_words sides.nx * (sides.ny * sides.nz)
-    word_few = omega (arith, stands.word, word_in sides.nz lent (low_lt at.y sides.ny stands.up sides.nz hy (omega (arith, stands.layer))))
-
     pub sample_there : (i : ℕ) → i < at.left → at.s + i < sample_count (size_of sides)
     unfolding site
     sample_there i l = omega (arith, sample_is i, site_small (size_of sides) (word_cubes * stands.past + i) at.y z (omega (arith, stands.along)) hy hz)
-
-    pub stretch_addable : SidesFit sides.nx sides.ny sides.nz → Addable at
-    stretch_addable fit =
-        record {
-          left = omega (arith, stands.along, fit.most_x);
-          y = omega (arith, fit.most_y);
-          s = omega (arith, sample_there 0 (omega (arith, stands.some)), samples_most sides.nx sides.ny sides.nz fit);
-          word = omega (arith, word_few, words_most sides.nx sides.ny sides.nz fit);
-        }
 
 module _ (sides : Sides) (masks : List ℕ) (z : ℕ) (ready : Ready sides z masks) (at : Stretch) (stands : Stands sides z at) where
   -- a stretch's word in a row whose words are lent is among them; its own row is such a row, and so are those behind it, over it and behind that

@@ -18,9 +18,6 @@ use Rattle.summarylist.proofs.Levels.{level_kept}
 abbrev pub LevelsFrom : Size → List ℕ → List ℕ → ℕ → Type 0
 LevelsFrom n samples list k = (i : ℕ) → k ≤ i → i ≤ halvings → LevelOf n samples list i
 
-pub none_yet : (n : Size) (samples list : List ℕ) (k : ℕ) → halvings < k → LevelsFrom n samples list k
-none_yet n samples list k past i from to = absurd (omega arith)
-
 -- the level above those that are there: it can be worked out, and with it there is one more
 module _ (left : ℕ) (some : 0 < left) where
   pub fits_above : (nx ny nz : ℕ) (samples list : List ℕ) → SidesFit nx ny nz → length samples ≡ sample_count (size nx ny nz) → length list ≡ summary_length

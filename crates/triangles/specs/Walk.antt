@@ -3,11 +3,18 @@ use Rattle.std.specs.Prelude.{◌≡◌, true, List, ℕ, ◌+◌, ◌*◌, ◌<
 use Rattle.std.proofs.lemmas.List.Edits.{sets}
 use Rattle.laws.specs.Bits.{bit}
 use Rattle.cube.specs.Cube.{cube_edge_count, cases}
+use Rattle.cube.specs.Promise.{Rows, Counts}
 use Rattle.cube.specs.Answer.{count, case_length}
 use Rattle.grid.specs.Work.{Nameable}
 use Rattle.rows.specs.declared.Sides.{Sides}
 use Rattle.cuberows.specs.declared.Corners.{Corners}
+use Rattle.triangles.specs.declared.Tables.{Tables}
 use Rattle.triangles.specs.Names.{stretch_names, layer_names}
+
+-- the tables are those of all cases
+pub record Read (tables : Tables) : Type 0 where
+  pub rows : Rows tables.rows
+  pub counts : Counts tables.counts
 
 -- a corner's edge is read from the table, and its grid edge can be called by its name
 pub record CornerFits (rows offsets names : List ℕ) (place edge : ℕ) : Type 0 where

@@ -7,7 +7,6 @@ ghost use Rattle.std.proofs.lemmas.List.Edits.{sets};
 ghost use Rattle.laws.specs.Room.{laid};
 ghost use Rattle.laws.specs.Mesh.{flat};
 ghost use Rattle.cube.specs.Cube.{cube_edges};
-ghost use Rattle.cube.specs.Promise.{Rows, Counts};
 ghost use Rattle.grid.specs.Limits.{most_side};
 ghost use Rattle.grid.specs.Grid.{axes, edge_count};
 ghost use Rattle.grid.specs.Mode.{cubes};
@@ -16,14 +15,36 @@ ghost use Rattle.grid.specs.Work.{name_of, Nameable, NamesFit};
 ghost use Rattle.rows.specs.Rows.{Whole, Ready, size_of, words_above};
 ghost use Rattle.cuberows.specs.Cubes.{FoundIn, FoundCubes};
 ghost use Rattle.triangles.specs.Names.{edge_offset, corner_name, cube_names, stretch_names, layer_names};
-ghost use Rattle.triangles.specs.Walk.{CornerFits, CubeRoom, StretchRoom, LayerRoom, Written};
+ghost use Rattle.triangles.specs.Walk.{Read, CornerFits, CubeRoom, StretchRoom, LayerRoom, Written};
 
 use cube::{CASE_LENGTH, CASES, TABLE};
 use cuberows::Corners;
 use rows::Sides;
 
+// What the walk along the cubes of a grid reads: the table of their triangles, how many each case has, and how far the grid edge of each cube edge is from the first grid edge of the cube's first corner.
+#[derive(Clone, Copy)]
+pub struct Tables {
+    pub rows: [u8; TABLE],
+    pub counts: [u8; CASES],
+    pub offsets: [usize; 12],
+}
+
+impl Tables {
+    pub fn new(nx: usize, ny: usize) -> Tables
+        requires { (nx ≤ most_side) × (ny ≤ most_side) }
+        ensures read { Read result }
+        ensures offsets { result.offsets ≡ map (edge_offset nx ny) cube_edges }
+    {
+        Tables {
+            rows: cube::rows(),
+            counts: cube::counts(),
+            offsets: edge_offsets(nx, ny),
+        }
+    }
+}
+
 // How far the grid edge of each cube edge is from the first grid edge of the cube's first corner.
-pub fn edge_offsets(nx: usize, ny: usize) -> [usize; 12]
+fn edge_offsets(nx: usize, ny: usize) -> [usize; 12]
     requires { (nx ≤ most_side) × (ny ≤ most_side) }
     ensures { result ≡ map (edge_offset nx ny) cube_edges }
 {
@@ -46,24 +67,17 @@ fn name(names: &[u32], edge: usize) -> u32
 }
 
 // What the grid edge of one corner is called; the corner's cube edge stands in the table at `place`, and `edge` is the first grid edge of the cube's first corner.
-fn corner(
-    rows: &[u8; TABLE],
-    offsets: &[usize; 12],
-    names: &[u32],
-    place: usize,
-    edge: usize,
-) -> u32
-    requires { CornerFits rows.now offsets.now names.now place edge }
-    ensures { result ≡ corner_name offsets.now names.now edge (get_or rows.now place 0) }
+fn corner(tables: &Tables, names: &[u32], place: usize, edge: usize) -> u32
+    requires { CornerFits tables.now.rows tables.now.offsets names.now place edge }
+    ensures { result ≡ corner_name tables.now.offsets names.now edge (get_or tables.now.rows place 0) }
 {
-    let e = rows[place] as usize;
-    name(names, edge + offsets[e])
+    let e = tables.rows[place] as usize;
+    name(names, edge + tables.offsets[e])
 }
 
 // Writes one cube's triangles; `many` is how many there are, and `edge` the first grid edge of the cube's first corner.
 fn write_cube(
-    rows: &[u8; TABLE],
-    offsets: &[usize; 12],
+    tables: &Tables,
     names: &[u32],
     triangles: &mut [u32],
     case: usize,
@@ -71,17 +85,17 @@ fn write_cube(
     edge: usize,
     at: usize,
 )
-    requires rows { Rows rows.now }
-    requires cube_room { CubeRoom offsets.now names.now triangles.old case (3 * many) edge at }
-    ensures { triangles.new ≡ sets triangles.old at (cube_names offsets.now names.now edge case) }
+    requires read { Read tables.now }
+    requires cube_room { CubeRoom tables.now.offsets names.now triangles.old case (3 * many) edge at }
+    ensures { triangles.new ≡ sets triangles.old at (cube_names tables.now.offsets names.now edge case) }
 {
     let from = CASE_LENGTH * case;
     for k in 0..many {
         let place = from + 3 * k;
         let to = at + 3 * k;
-        let a = corner(rows, offsets, names, place, edge);
-        let b = corner(rows, offsets, names, place + 1, edge);
-        let c = corner(rows, offsets, names, place + 2, edge);
+        let a = corner(tables, names, place, edge);
+        let b = corner(tables, names, place + 1, edge);
+        let c = corner(tables, names, place + 2, edge);
         triangles[to] = a;
         triangles[to + 1] = b;
         triangles[to + 2] = c;
@@ -90,9 +104,7 @@ fn write_cube(
 
 // Writes the triangles of some cubes of a stretch, a bit each, and answers where it stopped; `edge` is the first grid edge of the stretch's first corner.
 fn write_stretch(
-    rows: &[u8; TABLE],
-    counts: &[u8; CASES],
-    offsets: &[usize; 12],
+    tables: &Tables,
     names: &[u32],
     triangles: &mut [u32],
     corners: Corners,
@@ -100,10 +112,9 @@ fn write_stretch(
     edge: usize,
     at: usize,
 ) -> usize
-    requires rows { Rows rows.now }
-    requires counts { Counts counts.now }
-    requires stretch_room { StretchRoom offsets.now names.now triangles.old corners cubes edge at }
-    ensures { Written triangles.old triangles.new at (stretch_names offsets.now names.now corners cubes edge) result }
+    requires read { Read tables.now }
+    requires stretch_room { StretchRoom tables.now.offsets names.now triangles.old corners cubes edge at }
+    ensures { Written triangles.old triangles.new at (stretch_names tables.now.offsets names.now corners cubes edge) result }
 {
     let mut busy = cubes;
     let mut to = at;
@@ -111,8 +122,8 @@ fn write_stretch(
         let i = u64::trailing_zeros(busy);
         let here = edge + 3 * (i as usize);
         let case = corners.case(i);
-        let many = counts[case] as usize;
-        write_cube(rows, offsets, names, triangles, case, many, here, to);
+        let many = tables.counts[case] as usize;
+        write_cube(tables, names, triangles, case, many, here, to);
         to += 3 * many;
         busy = busy & (busy - 1);
     }
@@ -121,9 +132,7 @@ fn write_stretch(
 
 // Writes the triangles of a layer of cubes, and answers where it stopped; `found` has words of found cubes, or none at all.
 pub fn write_layer(
-    rows: &[u8; TABLE],
-    counts: &[u8; CASES],
-    offsets: &[usize; 12],
+    tables: &Tables,
     masks: &[u64],
     found: &[u64],
     names: &[u32],
@@ -132,13 +141,12 @@ pub fn write_layer(
     z: usize,
     from: usize,
 ) -> usize
-    requires rows { Rows rows.now }
-    requires counts { Counts counts.now }
+    requires read { Read tables.now }
     requires ready { Ready sides z masks.now }
     requires z_bound { z + 1 < sides.nz }
     requires found_in { FoundIn (size_of sides) (words_above sides masks.now) found.now z }
-    requires layer_room { LayerRoom offsets.now names.now triangles.old sides masks.now z from }
-    ensures { Written triangles.old triangles.new from (layer_names offsets.now names.now sides masks.now z) result }
+    requires layer_room { LayerRoom tables.now.offsets names.now triangles.old sides masks.now z from }
+    ensures { Written triangles.old triangles.new from (layer_names tables.now.offsets names.now sides masks.now z) result }
 {
     let mut at = rows::first(sides, z);
     let mut to = from;
@@ -147,9 +155,7 @@ pub fn write_layer(
         let cubes = rows::cubes_mask(sides, at.left);
         let busy = cuberows::busy_cubes(found, at.y, z, corners, cubes);
         let edge = 3 * at.s;
-        to = write_stretch(
-            rows, counts, offsets, names, triangles, corners, busy, edge, to,
-        );
+        to = write_stretch(tables, names, triangles, corners, busy, edge, to);
         at = rows::next(sides, at);
     }
     to
@@ -164,14 +170,10 @@ pub fn write(sides: Sides, masks: &[u64], found: &[u64], names: &[u32], triangle
     ensures { let corners = flat (edge_mesh cubes (size_of sides) (words_above sides masks.now)) in
         triangles.new ≡ laid (map (name_of names.now) corners) triangles.old }
 {
-    let table = cube::rows();
-    let counts = cube::counts();
-    let offsets = edge_offsets(sides.nx, sides.ny);
+    let tables = Tables::new(sides.nx, sides.ny);
     let last = sides.nz - 1;
     let mut to = 0;
     for z in 0..last {
-        to = write_layer(
-            &table, &counts, &offsets, masks, found, names, triangles, sides, z, to,
-        );
+        to = write_layer(&tables, masks, found, names, triangles, sides, z, to);
     }
 }
