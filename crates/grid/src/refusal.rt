@@ -1,6 +1,6 @@
 // Document 01, "Numbers that refuse", and those that document 02 adds.
 ghost use Rattle.std.specs.Prelude.{◌≡◌};
-ghost use Rattle.grid.specs.Refusal.{number_of, grid_line, mesh_line, told};
+ghost use Rattle.grid.specs.Refusal.{number_of, grid_line, told, told_line};
 
 // Why a call is refused. A malformed line of a text is named.
 #[derive(Clone, Copy, Debug, PartialEq, Eq)]
@@ -63,16 +63,6 @@ impl Refusal {
             _ => 0,
         }
     }
-
-    // The malformed line of a mesh's text that it names, or 0.
-    pub fn mesh_line(self) -> u64
-        ensures { result ≡ mesh_line self }
-    {
-        match self {
-            Refusal::MeshLine(line) => line,
-            _ => 0,
-        }
-    }
 }
 
 // What C is told of an answer: 0 if granted, else the refusal's number.
@@ -82,5 +72,15 @@ pub fn told<T: Copy>(answer: Result<T, Refusal>) -> u32
     match answer {
         Ok(_) => 0,
         Err(refusal) => refusal.number(),
+    }
+}
+
+// The malformed line of a mesh's text that C is told of an answer, or 0.
+pub fn told_line<T: Copy>(answer: Result<T, Refusal>) -> u64
+    ensures { result ≡ told_line answer }
+{
+    match answer {
+        Err(Refusal::MeshLine(line)) => line,
+        _ => 0,
     }
 }

@@ -13,8 +13,15 @@ ghost use Rattle.shelllist.specs.Promise.{Shells};
 ghost use Rattle.std.specs.Prelude.{[], ◌∷◌};
 
 use cube::CASE_LENGTH;
-use curvature::Reading;
+use extract::Extracted;
+use grid::refusal::told;
 use records::Shell;
+
+// What a refusal counts.
+const NO_MESH: Extracted = Extracted {
+    points: 0,
+    triangles: 0,
+};
 
 // How many triangles a case has: 0 to 5.
 #[unsafe(no_mangle)]
@@ -150,7 +157,7 @@ pub extern "C" fn tholbrina_answer(
     match curvature::read_back(marks, areas, vectors, point) {
         Err(refusal) => refusal.number(),
         Ok(answer) => {
-            let plain = Plain::from(answer);
+            let plain = curvature::told(answer);
             *kind = plain.kind;
             *area = plain.area;
             *x = plain.vector.x;

@@ -5,6 +5,15 @@
 ghost use Rattle.std.specs.Prelude.{[]};
 ghost use Rattle.layers.specs.Promise.{rooms, open_left, left, Opens, Layers, Closes};
 
+use grid::refusal::told;
+use layers::Answered;
+
+// What a refusal hands out.
+const NOTHING: Answered = Answered {
+    points: 0,
+    triangles: 0,
+};
+
 // Opens a run. Answers 0 if granted, else the refusal's number.
 #[unsafe(no_mangle)]
 pub extern "C" fn tholbrina_layers_open(
@@ -16,7 +25,7 @@ pub extern "C" fn tholbrina_layers_open(
 ) -> u32
     ensures { Opens nx ny nz grey state.old (open_left result state.new) }
 {
-    layers::open(nx, ny, nz, grey, state)
+    told(layers::open(nx, ny, nz, grey, state))
 }
 
 // Takes a layer, and hands out the points of the layer below and the triangles of the cubes between. Answers 0 if granted, else the refusal's number; the counts are 0 after a refusal.
@@ -36,9 +45,10 @@ pub extern "C" fn tholbrina_layers_next(
         Layers layer.now before state.old (left result point_count.new triangle_count.new after state.new) }
 {
     let done = layers::next(layer, state, points, edges, marks, triangles);
-    *point_count = done.points;
-    *triangle_count = done.triangles;
-    done.number
+    let counts = done.unwrap_or(NOTHING);
+    *point_count = counts.points;
+    *triangle_count = counts.triangles;
+    told(done)
 }
 
 // Closes a run, and hands out the points of the last layer. Answers 0 if granted, else the refusal's number; the count is 0 after a refusal.
@@ -55,6 +65,6 @@ pub extern "C" fn tholbrina_layers_close(
         Closes before state.old (left result point_count.new 0 after state.new) }
 {
     let done = layers::close(state, points, edges, marks);
-    *point_count = done.points;
-    done.number
+    *point_count = done.unwrap_or(0);
+    told(done)
 }

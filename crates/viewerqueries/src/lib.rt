@@ -5,6 +5,16 @@
 ghost use Rattle.extract.specs.Promise.{rooms};
 ghost use Rattle.query.specs.Promise.{built_left, query_left, Builds, Queries};
 
+use grid::refusal::told;
+use query::Queried;
+
+// What a refusal counts.
+const NO_MESH: Queried = Queried {
+    points: 0,
+    triangles: 0,
+    blocks: 0,
+};
+
 // The summary of the samples, into a room of its length. Answers 0 if granted, else the refusal's number.
 #[unsafe(no_mangle)]
 pub extern "C" fn tholbrina_summary(
@@ -16,7 +26,7 @@ pub extern "C" fn tholbrina_summary(
 ) -> u32
     ensures { Builds nx ny nz samples.now summary.old (built_left result summary.new) }
 {
-    query::build(nx, ny, nz, samples, summary)
+    told(query::build(nx, ny, nz, samples, summary))
 }
 
 // The mesh of a grid at one grey value by the summary of its samples, into lent rooms. Answers 0 if granted, else the refusal's number; the counts are 0 after a refusal.
@@ -45,8 +55,9 @@ pub extern "C" fn tholbrina_query(
     let done = query::query(
         nx, ny, nz, grey, samples, summary, points, edges, marks, triangles, work,
     );
-    *point_count = done.points;
-    *triangle_count = done.triangles;
-    *block_count = done.blocks;
-    done.number
+    let counts = done.unwrap_or(NO_MESH);
+    *point_count = counts.points;
+    *triangle_count = counts.triangles;
+    *block_count = counts.blocks;
+    told(done)
 }

@@ -9,7 +9,16 @@ ghost use Rattle.meshread.specs.Promise.{Reads};
 ghost use Rattle.reader.specs.Promise.{rooms, left};
 ghost use Rattle.reader.specs.Counts.{counts_left, counts_answered};
 
+use grid::refusal::{told, told_line};
+use meshrows::Counts;
 use records::Shell;
+
+// What a refusal counts.
+const NO_MESH: Counts = Counts {
+    points: 0,
+    triangles: 0,
+    shells: 0,
+};
 
 // The text of a mesh and its records, one a shell, to the front of the lent room. Answers 0 if granted, else the refusal's number; the length of the text
 // is 0 after a refusal.
@@ -37,8 +46,8 @@ pub extern "C" fn tholbrina_write(
         records.len(),
         text,
     );
-    *length = written.length;
-    written.number
+    *length = written.unwrap_or(0);
+    told(written)
 }
 
 // A mesh read back from its text, into lent rooms. Answers 0 if granted, else the refusal's number; the line is that of a refusal for a line, else 0, and the
@@ -62,11 +71,12 @@ pub extern "C" fn tholbrina_read(
         Reads text.now before (left result line.new point_count.new triangle_count.new shell_count.new after) }
 {
     let read = reader::read_mesh(text, points, edges, marks, triangles, records, work);
-    *line = read.line;
-    *point_count = read.points;
-    *triangle_count = read.triangles;
-    *shell_count = read.shells;
-    read.number
+    let counts = read.unwrap_or(NO_MESH);
+    *line = told_line(read);
+    *point_count = counts.points;
+    *triangle_count = counts.triangles;
+    *shell_count = counts.shells;
+    told(read)
 }
 
 // The numbers of line 1 of a mesh's text. Answers 0, or 15 for a line that is not of that form; the numbers are 0 then.
@@ -79,9 +89,10 @@ pub extern "C" fn tholbrina_read_counts(
 ) -> u32
     ensures { counts_left result points.new triangles.new shells.new ≡ counts_answered text.now }
 {
-    let counts = reader::read_counts(text);
+    let read = reader::read_counts(text);
+    let counts = read.unwrap_or(NO_MESH);
     *points = counts.points;
     *triangles = counts.triangles;
     *shells = counts.shells;
-    counts.number
+    told(read)
 }
