@@ -11,8 +11,7 @@ use Rattle.grid.specs.Limits.{most_points, most_triangles}
 use Rattle.std.specs.Prelude.{Ok, Err}
 use Rattle.grid.specs.declared.refusal.Refusal.{Refusal}
 use Rattle.grid.specs.declared.refusal.Refusal.TheVariants.{OtherShells}
-use Rattle.grid.specs.Refusal.{number_of}
-use Rattle.reading.specs.Told.{line_of}
+use Rattle.grid.specs.Refusal.{number_of, mesh_line}
 use Rattle.mesh.proofs.Places.{within_any}
 use Rattle.mesh.proofs.Passed.{passed}
 use Rattle.records.specs.declared.Shell.{Shell}
@@ -45,7 +44,7 @@ same_outcome : {n n' l l' p p' t t' s s' : ℕ} {a a' b b' c c' d d' w w' : List
 same_outcome h i j k m n o p q r s = rw (h, i, j, k, m, n, o, p, q, r, s)
 
 -- a refusal leaves every result room
-pub read_refused : (input : List ℕ) (r : Rooms) (e : Refusal) (work : List ℕ) → Judges input (lengths_of r) r.work (Err e) work → Reads input r (refused (number_of e) (line_of e) (with_work r work))
+pub read_refused : (input : List ℕ) (r : Rooms) (e : Refusal) (work : List ℕ) → Judges input (lengths_of r) r.work (Err e) work → Reads input r (refused (number_of e) (mesh_line e) (with_work r work))
 unfolding cleared
 read_refused input r e work h = go h
   where
@@ -53,10 +52,10 @@ read_refused input r e work h = go h
     after true z = ap (with_work r) z
     after false z = ap (with_work r) z
 
-    go : Judges input (lengths_of r) r.work (Err e) work → Reads input r (refused (number_of e) (line_of e) (with_work r work))
+    go : Judges input (lengths_of r) r.work (Err e) work → Reads input r (refused (number_of e) (mesh_line e) (with_work r work))
     go (refused_early x q zeroed s z) =
         let y : x ≡ e = cc in
-        rw (sym y) (P.refused_early (number_of x) (line_of x) zeroed s (ap (refused (number_of x) (line_of x)) (after zeroed z)))
+        rw (sym y) (P.refused_early (number_of x) (mesh_line x) zeroed s (ap (refused (number_of x) (mesh_line x)) (after zeroed z)))
     go (others_shells m s found k N d q z) =
         let y : e ≡ OtherShells = cc in
         rw y (P.others_shells m s found k N d (ap (refused 16 0) (ap (with_work r) z)))

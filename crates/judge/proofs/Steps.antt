@@ -11,9 +11,8 @@ use Rattle.std.specs.Prelude.{Result}
 use Rattle.grid.specs.Limits.{most_points, most_triangles, most_coordinate}
 use Rattle.grid.specs.declared.refusal.Refusal.{Refusal}
 use Rattle.grid.specs.declared.refusal.Refusal.TheVariants.{Side, Samples, Room, Points, Triangles, Lengths as OtherLengths, Corners, Coordinates, Marks, Smoothing, Shells, GridLine, Small, Beyond, MeshLine, OtherShells, Layer, Closing, Summary}
-use Rattle.grid.specs.Refusal.{number_of}
+use Rattle.grid.specs.Refusal.{number_of, mesh_line}
 use Rattle.grid.proofs.Refused.{never_0}
-use Rattle.reading.specs.Told.{line_of}
 use Rattle.mesh.specs.Check.{lengths_fit, triangles_fit, all_within, mesh_number}
 use Rattle.reading.specs.Reading.{got, bad}
 use Rattle.reading.specs.Lined.{wrong, lined, following, read_end}
@@ -27,7 +26,7 @@ use Rattle.judge.specs.declared.Judged.{Judged}
 use Rattle.judge.specs.Judged.{Standing, mesh_in, JudgesSaid, refused_early, others_shells, taken, JudgesMesh}
 
 -- what is refused by a number up to 11 names no line
-line_none : (e : Refusal) → number_of e ≤ 11 → line_of e ≡ 0
+line_none : (e : Refusal) → number_of e ≤ 11 → mesh_line e ≡ 0
 line_none Side l = refl
 line_none Samples l = refl
 line_none Room l = refl
@@ -78,7 +77,7 @@ module _ (v t shells : ℕ) (input : List ℕ) (from next : ℕ) (old : List ℕ
       ap (λ ps. mesh_number ps (triangles_in v t old) (marks_in v old)) f.lines.points_there ∙ ap (λ ts. mesh_number (mesh_in f).points ts (marks_in v old)) f.lines.triangles_there
       ∙ ap (mesh_number (mesh_in f).points (mesh_in f).triangles) f.lines.marks_there
 
-  pub no_mesh : (e : Refusal) → number_of e ≡ mesh_number (points_in v old) (triangles_in v t old) (marks_in v old) → with_mesh (mesh_in f) ≡ refusal (number_of e) (line_of e) true
+  pub no_mesh : (e : Refusal) → number_of e ≡ mesh_number (points_in v old) (triangles_in v t old) (marks_in v old) → with_mesh (mesh_in f) ≡ refusal (number_of e) (mesh_line e) true
   unfolding with_mesh
   no_mesh e q =
       let n = line_none e (omega (arith, q, mesh_numbers (points_in v old) (triangles_in v t old) (marks_in v old))) in
@@ -120,8 +119,8 @@ module _ (v t shells : ℕ) (input : List ℕ) (from : ℕ) (old : List ℕ) (fe
 
       go : JudgesSaid (with_mesh (mesh_in standing)) input work r after → JudgesSaid (with_mesh (mesh_in standing)) input old r after
       go (refused_early e q zeroed y z) =
-          let t = mesh_zeroes (mesh_in standing) (number_of e) (line_of e) zeroed y in
-          refused_early e q true (y ∙ ap (refusal (number_of e) (line_of e)) t) (z ∙ ap (λ b. cond b (replicate (length work) 0) work) t ∙ zeros)
+          let t = mesh_zeroes (mesh_in standing) (number_of e) (mesh_line e) zeroed y in
+          refused_early e q true (y ∙ ap (refusal (number_of e) (mesh_line e)) t) (z ∙ ap (λ b. cond b (replicate (length work) 0) work) t ∙ zeros)
       go (others_shells m e found k N d q z) = others_shells m e found k N d q (z ∙ zeros)
       go (taken m e found k N w j q g) = taken m e found k N w j q g
 
@@ -132,7 +131,7 @@ module _ (input : List ℕ) (l : Lengths) where
   no_counts e = ap (with_counts l) e
 
   module _ (c : Counts) (rest : List ℕ) (q : read_counts input ≡ got c rest) where
-    pub no_room : (e : Refusal) → number_of e ≡ room_number c l → said input l ≡ refusal (number_of e) (line_of e) false
+    pub no_room : (e : Refusal) → number_of e ≡ room_number c l → said input l ≡ refusal (number_of e) (mesh_line e) false
     unfolding said with_counts
     no_room e n =
         let z = line_none e (omega (arith, n, room_numbers c l)) in

@@ -2,8 +2,7 @@
 use Rattle.std.specs.Prelude.{◌≡◌, List, map, Bool, cond, ℕ, ◌/◌, ◌^◌, ◌<◌, ◌≤◌, length, get_or, drop, replicate, Result, Ok, Err}
 use Rattle.grid.specs.declared.refusal.Refusal.{Refusal}
 use Rattle.grid.specs.declared.refusal.Refusal.TheVariants.{OtherShells}
-use Rattle.grid.specs.Refusal.{number_of}
-use Rattle.reading.specs.Told.{line_of}
+use Rattle.grid.specs.Refusal.{number_of, mesh_line}
 use Rattle.reading.specs.Lined.{lined}
 use Rattle.grid.specs.Limits.{most_points, most_triangles}
 use Rattle.columns.specs.Room.{work_length, points_in, triangles_in}
@@ -38,7 +37,7 @@ pub record FoundAt (input : List ℕ) (m : Mesh) (r : Judged) (work : List ℕ) 
 -- what may be decided where the text says this, and what becomes of the work room
 pub data JudgesSaid (s : Said) (input before : List ℕ) (r : Result Judged Refusal) (after : List ℕ) : Type 0 where
   -- 15, 4, 5, 11, 3, 7, 8 and 9
-  refused_early : (e : Refusal) → r ≡ Err e → (zeroed : Bool) → s ≡ refusal (number_of e) (line_of e) zeroed → after ≡ cond zeroed (replicate (length before) 0) before → JudgesSaid s input before r after
+  refused_early : (e : Refusal) → r ≡ Err e → (zeroed : Bool) → s ≡ refusal (number_of e) (mesh_line e) zeroed → after ≡ cond zeroed (replicate (length before) 0) before → JudgesSaid s input before r after
   -- 16
   others_shells : (m : Mesh) → s ≡ mesh m → (found : List ℕ) (shells : ℕ) → Numbered m found shells → (m.records ≡ own_records m found shells → ⊥)
       → r ≡ Err OtherShells → after ≡ replicate (length before) 0 → JudgesSaid s input before r after

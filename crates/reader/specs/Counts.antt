@@ -1,11 +1,12 @@
 -- What is answered of line 1 of a mesh's text alone: its numbers, or the number 15 and zeros.
-use Rattle.std.specs.Prelude.{List, ℕ, Result, Ok, Err}
+use Rattle.std.specs.Prelude.{List, ℕ, Result}
 use Rattle.grid.specs.declared.refusal.Refusal.{Refusal}
-use Rattle.grid.specs.Refusal.{number_of}
+use Rattle.grid.specs.Refusal.{told, granted_or}
 use Rattle.reading.specs.Reading.{Got, bad, got}
 use Rattle.meshread.specs.Lines.{read_counts}
 use Rattle.meshread.specs.Lines as said
 use Rattle.meshrows.specs.declared.Counts.{Counts as Line}
+use Rattle.reader.specs.Promise.{uncounted}
 
 -- the number of a refusal or 0, and the three numbers
 pub record Counts : Type 0 where
@@ -26,5 +27,4 @@ counts_answered input = counts_found (read_counts input)
 
 -- an answer in numbers
 abbrev pub counts_told : Result Line Refusal → Counts
-counts_told (Ok c) = counts_left 0 c.points c.triangles c.shells
-counts_told (Err e) = counts_left (number_of e) 0 0 0
+counts_told r = counts_left (told r) (granted_or uncounted r).points (granted_or uncounted r).triangles (granted_or uncounted r).shells
