@@ -1,7 +1,7 @@
 -- A letter and a tab at a place of an input, and what is read behind them.
 use mathlib.Core.Path.{◌≡◌, refl, ap, ◌∙◌}
 use mathlib.Core.List.{List, [], ◌∷◌, ◌++◌}
-use mathlib.Core.Bool.{true, false, cond, false≢true}
+use mathlib.Core.Bool.{true, false, cond}
 use Prim.Native.Nat.{ℕ, ◌+◌, ◌≤◌, ◌<◌}
 use native.Mathlib.Omega.{arith}
 use lib.Dec.{eqb}
@@ -50,15 +50,6 @@ module _ {A : Type 0} (letter : ℕ) (read : List ℕ → Got A) (input : List �
 
   pub lettered_is : starts_with letter (drop from input) ≡ true → read_lettered letter read (drop from input) ≡ read (drop (from + 2) input)
   lettered_is e = lettered_begun letter read (drop from input) ∙ rw (e, drop-drop 2 from input)
-
-two_long : (letter : ℕ) (bs : List ℕ) → starts_with letter bs ≡ true → 2 ≤ length bs
-unfolding starts_with
-two_long letter [] e = absurd (false≢true e)
-two_long letter (b ∷ []) e = absurd (false≢true e)
-two_long letter (b ∷ c ∷ bs) e = omega arith
-
-pub begun_inside : (letter : ℕ) (input : List ℕ) (from : ℕ) → starts_with letter (drop from input) ≡ true → from + 2 ≤ length input
-begun_inside letter input from e = omega (arith, two_long letter (drop from input) e, length-drop from input)
 
 -- the place behind a line: no line is empty
 pub behind_line : {A : Type 0} {read : List ℕ → Got A} {write : A → List ℕ} {Fits : A → Type 0} → Exact read write Fits → ((a : A) → 0 < length (write a)) → (input : List ℕ) (from : ℕ) (a : A) (next : ℕ)

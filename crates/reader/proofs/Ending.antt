@@ -12,12 +12,12 @@ use Rattle.meshread.specs.Promise.{Rooms, Reads}
 use Rattle.sameshells.specs.Same.{shells_at, LinesThere}
 use Rattle.judge.specs.declared.Judged.{Judged}
 use Rattle.judge.specs.Judged.{Judges, lengths_for}
-use Rattle.filling.specs.Filled.{Fillable, ListsFilled}
+use Rattle.filling.specs.Filled.{Fillable}
 use Rattle.filling.proofs.Reading.{fillable, read_refused, lines_there, records_hold, read_granted}
 use Rattle.reader.specs.Promise.{rooms, answered}
 use Rattle.reader.specs.Parts.{ListsRead}
 
--- what stands after the decision alone, what filling asks, and what stands after it
+-- what stands after a refusal, and what filling asks
 module _ (input : List ℕ) (records : ℕ) (points₀ edges₀ marks₀ triangles₀ work₀ held : List ℕ) (long : length held ≡ length work₀) where
   abbrev Decided : Result Judged Refusal → Type 0
   Decided r = Judges input (lengths_for (length points₀) (length edges₀) (length marks₀) (length triangles₀) records (length work₀)) work₀ r held
@@ -34,10 +34,6 @@ module _ (input : List ℕ) (records : ℕ) (points₀ edges₀ marks₀ triangl
   as_many = length-replicate records none
 
   module _ (j : Judged) (d : Decided (Ok j)) where
-    pub lists_granted : (points edges marks triangles work : List ℕ) → ListsFilled input j points₀ points edges₀ edges marks₀ marks triangles₀ triangles held work
-        → ListsRead input records points₀ edges₀ marks₀ triangles₀ work₀ (Ok j) points edges marks triangles work
-    lists_granted points edges marks triangles work filled = record { held = held; long = long; judged = d; filled = filled; refused = tt }
-
     pub lists_fit_lem : Fillable input j points₀ edges₀ marks₀ triangles₀ held
     lists_fit_lem =
         fillable input (rooms points₀ edges₀ marks₀ triangles₀ some_records work₀) j held

@@ -16,6 +16,7 @@ use readrecords::fill_records;
 use records::Shell;
 
 // What line 1 says, so that a caller can size the rooms of `read_mesh`.
+#[tactic(auto, unfolding(crate::specs::Counts::counts_found))]
 pub fn read_counts(input: &[u8]) -> Result<Counts, Refusal>
     ensures { counts_told result ≡ counts_answered input.now }
 {

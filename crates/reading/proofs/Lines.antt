@@ -1,8 +1,8 @@
 -- Numbers in a line and a run of lines, read piece by piece.
 use mathlib.Core.Path.{◌≡◌, refl, ap, sym, ◌∙◌}
 use mathlib.Core.List.{List, [], ◌∷◌, ◌++◌, append_assoc, append-nil}
-use Prim.Native.Nat.{ℕ, suc, ◌+◌, ◌*◌, ◌-◌, ◌≤◌, ◌<◌}
-use native.Mathlib.Nat.{sub-zero, mul-suc, mul-le-mul_left}
+use Prim.Native.Nat.{ℕ, suc, ◌+◌, ◌*◌, ◌-◌, ◌<◌}
+use native.Mathlib.Nat.{sub-zero, mul-suc}
 use native.Mathlib.Numerals.{add-one}
 use native.Mathlib.Omega.{arith}
 use lib.ListN.{length, take, drop, set, length-drop}
@@ -117,12 +117,8 @@ module _ (most width count i : ℕ) (ns bs : List ℕ) where
       rw (e, h, append-nil)
 
 -- the next row's place in a room of rows
-module _ (width count base i : ℕ) (q : base ≡ width * i) where
-  pub row_fits : i < count → base + width ≤ width * count
-  row_fits l = let e : base + width ≡ width * suc i = rw (q, mul-suc) in rw e (mul-le-mul_left width l)
-
-  pub row_after : base + width ≡ width * (i + 1)
-  row_after = rw (q, add-one, mul-suc)
+pub row_after : (width base i : ℕ) → base ≡ width * i → base + width ≡ width * (i + 1)
+row_after width base i q = rw (q, add-one, mul-suc)
 
 pub rows_joined : (old room : List ℕ) (base width : ℕ) → take base room ≡ take base old → take (base + width) room ≡ take base old ++ take width (drop base room)
 rows_joined old room base width e = take-add base width room ∙ rw e

@@ -1,7 +1,7 @@
 -- The list of records after some lines were read into it.
-use mathlib.Core.Path.{◌≡◌, refl, ap, sym, ◌∙◌, subst}
+use mathlib.Core.Path.{◌≡◌, refl, ap, sym, ◌∙◌}
 use mathlib.Core.List.{List, []}
-use Prim.Native.Nat.{ℕ, ◌+◌, ◌≤◌, ◌<◌}
+use Prim.Native.Nat.{ℕ, ◌+◌, ◌<◌}
 use native.Mathlib.Decide.{dec_lt}
 use native.Mathlib.Omega.{arith}
 use lib.ListN.{length, get_or, set, drop}
@@ -9,7 +9,6 @@ use lib.Seq.{ext_get_or}
 use Rattle.laws.specs.Room.{laid}
 use Rattle.laws.specs.Values.{list_to}
 use Rattle.laws.proofs.Values.{laid_none, laid_more, length_list, list_at}
-use Rattle.laws.proofs.Rooms.{length_laid}
 use Rattle.reading.specs.Lined.{read_lines}
 use Rattle.records.specs.declared.Shell.{Shell}
 use Rattle.records.specs.Grown.{none}
@@ -40,9 +39,6 @@ module _ (input : List ℕ) (from shells : ℕ) where
     -- the list after n lines
     abbrev pub read_to : ℕ → List Shell
     read_to n = laid (list_to n shell_said) ys
-
-    pub length_read : (n : ℕ) → n ≤ length ys → length (read_to n) ≡ length ys
-    length_read n l = length_laid (list_to n shell_said) ys (omega (arith, length_list n shell_said))
 
     pub read_none : ys ≡ read_to 0
     read_none = sym (laid_none shell_said ys)

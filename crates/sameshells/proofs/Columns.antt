@@ -1,6 +1,6 @@
 -- One column after the other in the work room, and each held against the lines.
-use mathlib.Core.Path.{◌≡◌, refl, ap, sym, ◌∙◌, subst}
-use mathlib.Core.List.{List, []}
+use mathlib.Core.Path.{◌≡◌, ap, sym, ◌∙◌, subst}
+use mathlib.Core.List.{List}
 use mathlib.Core.Bool.{Bool, true, false}
 use Prim.Native.Nat.{ℕ, ◌+◌, ◌≤◌, ◌<◌}
 use native.Mathlib.Omega.{arith}
@@ -19,9 +19,6 @@ use Rattle.sameshells.specs.Same.{Decides, SameColumn, SameField, ColumnLeft}
 module _ (shells v t : ℕ) (old : List ℕ) (stands : StandsIn shells v t old) where
   inside : column_at v t + shells ≤ length old
   inside = shells_inside shells v t old stands
-
-  pub column_none : ColumnLeft v t shells old old
-  column_none = record { column = []; short = omega arith; stays = refl }
 
   module _ (work : List ℕ) (left : ColumnLeft v t shells old work) where
     pub same_left : SameMesh v t old work

@@ -1,6 +1,6 @@
 -- `reader::read_lists` meets its contract.
 use Rattle.std.proofs.lemmas.Result.{err_from_is_err_and}
-use Rattle.reader.proofs.Ending.{lists_refused, lists_fit_lem, lists_granted}
+use Rattle.reader.proofs.Ending.{lists_refused, lists_fit_lem}
 use Rattle.reader.proofs.read_lists.Goals as goal
 
 pub returns-in_err-judged : goal.returns-in_err-judged
@@ -13,9 +13,3 @@ pub fill_lists-requires : goal.fill_lists-requires
 fill_lists-requires c =
     let a = c.args in
     lists_fit_lem a.input.now a.records a.points.now a.edges.now a.marks.now a.triangles.now a.work.now c.judge.new.work c.judge.auto.work c.in_ok-judged.judged c.in_ok-judged.ensures
-
-pub returns : goal.returns
-returns c =
-    let a = c.args in
-    let f = c.fill_lists in
-    lists_granted a.input.now a.records a.points.now a.edges.now a.marks.now a.triangles.now a.work.now c.judge.new.work c.judge.auto.work c.in_ok-judged.judged c.in_ok-judged.ensures f.new.points f.new.edges f.new.marks f.new.triangles f.new.work f.ensures

@@ -22,7 +22,7 @@ pub loop-i-preserved : goal.loop-i-preserved
 loop-i-preserved c =
     let a = c.args in
     let room = c.read_row.new.room in (
-      row_after a.width a.count c.loop-i.base c.loop-i.i c.loop-i.invariant.0,
+      row_after a.width c.loop-i.base c.loop-i.i c.loop-i.invariant.0,
       c.loop-i.invariant.1
           ∙ (rows_turn most_number a.width a.count c.loop-i.i (take c.loop-i.base c.loop-i.room) (drop c.loop-i.at a.input.now) (omega arith) (take a.width (drop c.loop-i.base room)) _ c.in-Some.ensures.line
           ∙ rw (rows_joined c.loop-i.room room c.loop-i.base a.width c.read_row.ensures.kept)),
