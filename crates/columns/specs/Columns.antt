@@ -4,6 +4,8 @@ use Rattle.std.specs.Prelude.{cond, ℕ, zero, suc, ◌+◌, ◌-◌, ◌^◌, m
 use Rattle.laws.specs.Range.{keep_to}
 use Rattle.mesh.specs.Place.{place_of}
 use Rattle.records.specs.declared.Shell.{Shell}
+use Rattle.columns.specs.declared.field.Field.{Field}
+use Rattle.columns.specs.declared.field.Field.TheVariants.{Low, Points, Touches, LeastX, GreatestX, LeastY, GreatestY, LeastZ, GreatestZ, Triangles}
 use Rattle.columns.specs.declared.ways.Way.{Way}
 use Rattle.columns.specs.declared.ways.Way.TheVariants.{Least, Greatest, Count}
 
@@ -19,6 +21,19 @@ field_of (suc (suc (suc (suc (suc (suc zero)))))) s = s.greatest_y
 field_of (suc (suc (suc (suc (suc (suc (suc zero))))))) s = s.least_z
 field_of (suc (suc (suc (suc (suc (suc (suc (suc zero)))))))) s = s.greatest_z
 field_of (suc (suc (suc (suc (suc (suc (suc (suc (suc k))))))))) s = s.triangles
+
+-- the number of a field
+abbrev pub kind_of : Field → ℕ
+kind_of Low = 0
+kind_of Points = 1
+kind_of Touches = 2
+kind_of LeastX = 3
+kind_of GreatestX = 4
+kind_of LeastY = 5
+kind_of GreatestY = 6
+kind_of LeastZ = 7
+kind_of GreatestZ = 8
+kind_of Triangles = 9
 
 -- how each is put together
 abbrev pub way_of : ℕ → Way

@@ -8,50 +8,28 @@ ghost use Rattle.laws.specs.Values.{list_to};
 ghost use Rattle.grid.specs.Limits.{most_points};
 ghost use Rattle.columns.specs.declared.ways.Way.TheVariants.{Count};
 ghost use Rattle.columns.specs.Room.{StandsIn, column_at, points_in, marks_in, point_number, triangle_number, record_in};
-ghost use Rattle.columns.specs.Columns.{field_of, way_of, worth_of, put_at, column_to};
+ghost use Rattle.columns.specs.Columns.{field_of, way_of, kind_of, worth_of, put_at, column_to};
 ghost use Rattle.columns.specs.Turns.{PointTurn, TriangleTurn};
 
-use records::Shell;
-use ways::{Way, put, start_of, way_of};
+use ways::Way;
 
+mod field;
 mod ways;
 
-// One field of a record, by its number.
-pub fn field_of(s: Shell, kind: u32) -> u32
-    ensures { result ≡ field_of kind s }
-{
-    match kind {
-        0 => s.low,
-        1 => s.points,
-        2 => s.touches,
-        3 => s.least_x,
-        4 => s.greatest_x,
-        5 => s.least_y,
-        6 => s.greatest_y,
-        7 => s.least_z,
-        8 => s.greatest_z,
-        _ => s.triangles,
-    }
-}
+pub use field::Field;
 
-// What point i brings to the column of a kind: its number, its mark or a coordinate.
-fn worth(work: &[u32], v: usize, kind: u32, i: usize) -> u32
+// What point i brings to the column of a field of points: its number, its mark or a coordinate. A count does not look at it.
+fn worth(work: &[u32], v: usize, field: Field, i: usize) -> u32
     requires { (i < v) × (v ≤ most_points) × (4 * v ≤ length work.now) }
-    ensures { result ≡ worth_of kind (points_in v work.now) (marks_in v work.now) i }
+    ensures { result ≡ worth_of (kind_of field) (points_in v work.now) (marks_in v work.now) i }
 {
-    if kind == 0 {
-        return i as u32;
+    match field {
+        Field::Low => i as u32,
+        Field::Touches => work[3 * v + i],
+        Field::Points | Field::LeastX | Field::GreatestX => work[3 * i],
+        Field::LeastY | Field::GreatestY => work[3 * i + 1],
+        Field::LeastZ | Field::GreatestZ | Field::Triangles => work[3 * i + 2],
     }
-    if kind == 2 {
-        return work[3 * v + i];
-    }
-    if kind < 5 {
-        return work[3 * i];
-    }
-    if kind < 7 {
-        return work[3 * i + 1];
-    }
-    work[3 * i + 2]
 }
 
 // Writes x to `count` places from `from` on.
@@ -63,14 +41,14 @@ pub fn fill(work: &mut [u32], from: usize, count: usize, x: u32)
 }
 
 // Point i into its shell's place of the column.
-fn add_point(work: &mut [u32], v: usize, t: usize, kind: u32, way: Way, i: usize)
-    requires { PointTurn v t kind way work.old i }
+fn add_point(work: &mut [u32], v: usize, t: usize, field: Field, way: Way, i: usize)
+    requires { PointTurn v t (kind_of field) way work.old i }
     ensures { let room = work.old in
-        work.new ≡ put_at way (column_at v t + point_number v t room i) (worth_of kind (points_in v room) (marks_in v room) i) room }
+        work.new ≡ put_at way (column_at v t + point_number v t room i) (worth_of (kind_of field) (points_in v room) (marks_in v room) i) room }
 {
     let at = 5 * v + 3 * t + work[4 * v + 3 * t + i] as usize;
-    let x = worth(work, v, kind, i);
-    work[at] = put(way, work[at], x);
+    let x = worth(work, v, field, i);
+    work[at] = way.put(work[at], x);
 }
 
 // Triangle k counted in its shell's place of the column.
@@ -84,16 +62,16 @@ fn add_triangle(work: &mut [u32], v: usize, t: usize, k: usize)
     work[at] += 1;
 }
 
-// The column of a kind, from all points.
-fn gather_points(work: &mut [u32], v: usize, t: usize, shells: usize, kind: u32)
+// The column of a field, from all points.
+fn gather_points(work: &mut [u32], v: usize, t: usize, shells: usize, field: Field)
     requires { StandsIn shells v t work.old }
     ensures { let room = work.old in
-        work.new ≡ sets room (column_at v t) (list_to shells (column_to (way_of kind) (point_number v t room) (worth_of kind (points_in v room) (marks_in v room)) v)) }
+        work.new ≡ sets room (column_at v t) (list_to shells (column_to (way_of (kind_of field)) (point_number v t room) (worth_of (kind_of field) (points_in v room) (marks_in v room)) v)) }
 {
-    let way = way_of(kind);
-    fill(work, 5 * v + 3 * t, shells, start_of(way));
+    let way = field.way();
+    fill(work, 5 * v + 3 * t, shells, way.start());
     for i in 0..v {
-        add_point(work, v, t, kind, way, i);
+        add_point(work, v, t, field, way, i);
     }
 }
 
@@ -109,15 +87,14 @@ fn gather_triangles(work: &mut [u32], v: usize, t: usize, shells: usize)
     }
 }
 
-// The column of a kind: that field of every shell's record, from the mesh and the shell numbers that stand in the room.
-pub fn gather(work: &mut [u32], v: usize, t: usize, shells: usize, kind: u32)
+// The column of a field: that field of every shell's record, from the mesh and the shell numbers that stand in the room.
+pub fn gather(work: &mut [u32], v: usize, t: usize, shells: usize, field: Field)
     requires { StandsIn shells v t work.old }
     ensures { let room = work.old in
-        work.new ≡ sets room (column_at v t) (list_to shells (λ n. field_of kind (record_in v t room n))) }
+        work.new ≡ sets room (column_at v t) (list_to shells (λ n. field_of (kind_of field) (record_in v t room n))) }
 {
-    if kind < 9 {
-        gather_points(work, v, t, shells, kind);
-    } else {
-        gather_triangles(work, v, t, shells);
+    match field {
+        Field::Triangles => gather_triangles(work, v, t, shells),
+        _ => gather_points(work, v, t, shells, field),
     }
 }

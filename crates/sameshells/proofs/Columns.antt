@@ -1,8 +1,8 @@
 -- One column after the other in the work room, and each held against the lines.
-use mathlib.Core.Path.{◌≡◌, ap, sym, ◌∙◌, subst}
-use mathlib.Core.List.{List}
+use mathlib.Core.Path.{◌≡◌, refl, ap, sym, ◌∙◌, subst}
+use mathlib.Core.List.{List, [], ◌∷◌}
 use mathlib.Core.Bool.{Bool, true, false}
-use Prim.Native.Nat.{ℕ, ◌+◌, ◌≤◌, ◌<◌}
+use Prim.Native.Nat.{ℕ, zero, suc, ◌+◌, ◌≤◌, ◌<◌}
 use native.Mathlib.Omega.{arith}
 use lib.ListN.{length, get_or}
 use lib.Seq.{sets, length-sets}
@@ -12,9 +12,28 @@ use Rattle.laws.proofs.Parts.{sets_over}
 use Rattle.laws.proofs.Runs.{run_at}
 use Rattle.records.specs.declared.Shell.{Shell}
 use Rattle.columns.specs.Room.{column_at, StandsIn, record_in}
-use Rattle.columns.specs.Columns.{field_of}
+use Rattle.columns.specs.declared.field.Field.{Field}
+use Rattle.columns.specs.declared.field.Field.TheVariants.{Low, Points, Touches, LeastX, GreatestX, LeastY, GreatestY, LeastZ, GreatestZ, Triangles}
+use Rattle.columns.specs.Columns.{field_of, kind_of}
 use Rattle.columns.proofs.Rooms.{SameMesh, column_leaves, still_stands, same_records, shells_inside}
 use Rattle.sameshells.specs.Same.{Decides, SameColumn, SameField, ColumnLeft}
+
+-- the fields in the order in which they are compared, each at its number
+abbrev pub field_at : ℕ → Field
+field_at k = get_or (Low ∷ Points ∷ Touches ∷ LeastX ∷ GreatestX ∷ LeastY ∷ GreatestY ∷ LeastZ ∷ GreatestZ ∷ Triangles ∷ []) k Low
+
+pub number_at : (k : ℕ) → k < 10 → kind_of (field_at k) ≡ k
+number_at zero l = refl
+number_at (suc zero) l = refl
+number_at (suc (suc zero)) l = refl
+number_at (suc (suc (suc zero))) l = refl
+number_at (suc (suc (suc (suc zero)))) l = refl
+number_at (suc (suc (suc (suc (suc zero))))) l = refl
+number_at (suc (suc (suc (suc (suc (suc zero)))))) l = refl
+number_at (suc (suc (suc (suc (suc (suc (suc zero))))))) l = refl
+number_at (suc (suc (suc (suc (suc (suc (suc (suc zero)))))))) l = refl
+number_at (suc (suc (suc (suc (suc (suc (suc (suc (suc zero))))))))) l = refl
+number_at (suc (suc (suc (suc (suc (suc (suc (suc (suc (suc k)))))))))) l = absurd (omega arith)
 
 module _ (shells v t : ℕ) (old : List ℕ) (stands : StandsIn shells v t old) where
   inside : column_at v t + shells ≤ length old

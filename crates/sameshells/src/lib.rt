@@ -4,31 +4,30 @@
 
 ghost use Rattle.std.specs.Prelude.{◌≡◌, ◌+◌, ◌≤◌, ◌<◌, length};
 ghost use Rattle.columns.specs.Room.{StandsIn, record_in};
+ghost use Rattle.columns.specs.Columns.{kind_of};
 ghost use Rattle.sameshells.specs.Same.{shells_at, LinesThere, Decides, SameColumn, SameFields, ColumnLeft, WordsThere, SameVolumes, MeshLeft};
 ghost use Rattle.laws.specs.Values.{list_to};
 ghost use Rattle.volumes.specs.Volumes.{volume_read};
 
+use columns::Field;
 use meshrows::read_shell;
-
-// The fields of a shell but its volume.
-const KINDS: u32 = 10;
 
 // Is one field of every shell what stands from a place of the room on? Each line is known to be well formed.
 fn same_column(
     input: &[u8],
     from: usize,
     shells: usize,
-    kind: u32,
+    field: Field,
     work: &[u32],
     column: usize,
 ) -> bool
     requires { LinesThere input.now from shells × (column + shells ≤ length work.now) }
-    ensures { Decides result (SameColumn (shells_at input.now from shells) shells kind work.now column) }
+    ensures { Decides result (SameColumn (shells_at input.now from shells) shells (kind_of field) work.now column) }
 {
     let mut at = from;
     for n in 0..shells {
         let (shell, next) = read_shell(input, at).unwrap();
-        if columns::field_of(shell, kind) != work[column + n] {
+        if field.of(shell) != work[column + n] {
             return false;
         }
         at = next;
@@ -50,9 +49,9 @@ fn same_columns(
     ensures left { ColumnLeft v t shells work.old work.new }
 {
     let column = 5 * v + 3 * t;
-    for kind in 0..KINDS {
-        columns::gather(work, v, t, shells, kind);
-        if !same_column(input, from, shells, kind, work, column) {
+    for field in Field::ALL {
+        columns::gather(work, v, t, shells, field);
+        if !same_column(input, from, shells, field, work, column) {
             return false;
         }
     }

@@ -1,7 +1,7 @@
 -- `columns::gather_points` meets its contract: the column of the points so far, then all of them.
 use mathlib.Core.Path.{◌≡◌, ap, ◌∙◌}
 use native.Mathlib.Omega.{arith}
-use Rattle.columns.specs.Columns.{start_by}
+use Rattle.columns.specs.Columns.{start_by, kind_of}
 use Rattle.columns.proofs.Rooms.{shells_inside}
 use Rattle.columns.proofs.Turns.{points_after, begun, points_begun, points_ended, point_turn, point_put}
 use Rattle.columns.proofs.gather_points.Goals as goal
@@ -13,17 +13,17 @@ fill-requires c =
 pub loop-i-init : goal.loop-i-init
 loop-i-init c =
     let a = c.args in
-    let x = c.start_of.result in
+    let x = c.start.result in
     record {
       stands = begun a.shells a.v a.t a.work.now c.requires c.fill.new.work x c.fill.ensures;
-      is_way = c.way_of-way.ensures;
-      put = points_begun a.shells a.v a.t a.work.now c.requires c.fill.new.work x c.fill.ensures a.kind (c.start_of.ensures ∙ ap start_by c.way_of-way.ensures);
+      is_way = c.way-way.ensures;
+      put = points_begun a.shells a.v a.t a.work.now c.requires c.fill.new.work x c.fill.ensures (kind_of a.field) (c.start.ensures ∙ ap start_by c.way-way.ensures);
     }
 
 pub add_point-requires : goal.add_point-requires
 add_point-requires c =
     let a = c.args in
-    rw (c.loop-i.invariant.is_way, c.loop-i.invariant.put) (point_turn a.shells a.v a.t c.fill.new.work c.loop-i.invariant.stands a.kind c.loop-i.i c.loop-i-test.true)
+    rw (c.loop-i.invariant.is_way, c.loop-i.invariant.put) (point_turn a.shells a.v a.t c.fill.new.work c.loop-i.invariant.stands (kind_of a.field) c.loop-i.i c.loop-i-test.true)
 
 pub loop-i-preserved : goal.loop-i-preserved
 loop-i-preserved c =
@@ -32,7 +32,7 @@ loop-i-preserved c =
       stands = c.loop-i.invariant.stands;
       is_way = c.loop-i.invariant.is_way;
       put =
-          point_put a.shells a.v a.t c.fill.new.work c.loop-i.invariant.stands a.kind c.loop-i.i c.loop-i-test.true
+          point_put a.shells a.v a.t c.fill.new.work c.loop-i.invariant.stands (kind_of a.field) c.loop-i.i c.loop-i-test.true
           c.loop-i.invariant.is_way c.loop-i.invariant.put c.add_point.ensures;
     }
 
@@ -41,5 +41,5 @@ returns c =
     let a = c.args in
     let end : c.loop-i.i ≡ a.v = omega arith in
     c.loop-i.invariant.put
-    ∙ ap (points_after a.shells a.v a.t c.fill.new.work a.kind) end
-    ∙ points_ended a.shells a.v a.t a.work.now c.requires c.fill.new.work c.start_of.result c.fill.ensures a.kind a.v
+    ∙ ap (points_after a.shells a.v a.t c.fill.new.work (kind_of a.field)) end
+    ∙ points_ended a.shells a.v a.t a.work.now c.requires c.fill.new.work c.start.result c.fill.ensures (kind_of a.field) a.v

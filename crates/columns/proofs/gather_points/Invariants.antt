@@ -4,7 +4,7 @@ use mathlib.Core.List.{List}
 use Prim.Native.Nat.{ℕ}
 use Rattle.columns.specs.declared.ways.Way.{Way}
 use Rattle.columns.specs.Room.{StandsIn}
-use Rattle.columns.specs.Columns.{way_of}
+use Rattle.columns.specs.Columns.{way_of, kind_of}
 use Rattle.columns.proofs.Turns.{points_after}
 use Rattle.columns.proofs.gather_points.Given as goal
 
@@ -14,4 +14,4 @@ pub record PointsPut (shells v t kind : ℕ) (way : Way) (filled now : List ℕ)
   pub put : now ≡ points_after shells v t filled kind i
 
 abbrev pub invariant-loop-i : goal.invariant-loop-i
-invariant-loop-i l = PointsPut l.shells l.v l.t l.kind l.way l.initial.work l.work l.i
+invariant-loop-i l = PointsPut l.shells l.v l.t (kind_of l.field) l.way l.initial.work l.work l.i

@@ -1,39 +1,39 @@
--- `columns::worth` meets its contract, kind by kind.
+-- `columns::worth` meets its contract, field by field.
 use mathlib.Core.Path.{sym}
+use mathlib.Core.Logic.{⊎_elim}
 use Prim.Native.Nat.{◌+◌, ◌*◌}
 use native.Mathlib.Omega.{arith}
-use borrow.Author.Tests.{eq-eqb, ne_eqb, lt-ltb, le-ltb}
 use Rattle.columns.specs.Columns.{worth_of}
 use Rattle.columns.proofs.Rooms.{coordinate_at, mark_at}
 use Rattle.columns.proofs.worth.Goals as goal
 
-pub returns-then-kind-eq0 : goal.returns-then-kind-eq0
+pub returns-in-Low : goal.returns-in-Low
 unfolding worth_of
-returns-then-kind-eq0 c = simp (eq-eqb _ _ c.if-kind-eq0.true)
+returns-in-Low c = rw c.in-Low.is
 
-pub returns-then-kind-eq2 : goal.returns-then-kind-eq2
+pub returns-in-Touches : goal.returns-in-Touches
 unfolding worth_of
-returns-then-kind-eq2 c =
+returns-in-Touches c =
     let a = c.args in
-    simp (ne_eqb _ _ c.if-kind-eq0.false, eq-eqb _ _ c.if-kind-eq2.true) (sym (mark_at a.v a.work.now a.i (omega arith)))
+    rw c.in-Touches.is (sym (mark_at a.v a.work.now a.i (omega arith)))
 
-pub returns-then-kind-lt5 : goal.returns-then-kind-lt5
+pub returns-in-Points : goal.returns-in-Points
 unfolding worth_of
-returns-then-kind-lt5 c =
+returns-in-Points c =
     let a = c.args in
-    simp (ne_eqb _ _ c.if-kind-eq0.false, ne_eqb _ _ c.if-kind-eq2.false, lt-ltb _ _ c.if-kind-lt5.true)
-    (sym (coordinate_at a.v a.work.now (3 * a.i) (omega arith)))
+    let x = sym (coordinate_at a.v a.work.now (3 * a.i) (omega arith)) in
+    ⊎_elim (λ e. rw e x) (⊎_elim (λ e. rw e x) (λ e. rw e x)) c.in-Points.is
 
-pub returns-then-kind-lt7 : goal.returns-then-kind-lt7
+pub returns-in-LeastY : goal.returns-in-LeastY
 unfolding worth_of
-returns-then-kind-lt7 c =
+returns-in-LeastY c =
     let a = c.args in
-    simp (ne_eqb _ _ c.if-kind-eq0.false, ne_eqb _ _ c.if-kind-eq2.false, le-ltb _ _ c.if-kind-lt5.false, lt-ltb _ _ c.if-kind-lt7.true)
-    (sym (coordinate_at a.v a.work.now (3 * a.i + 1) (omega arith)))
+    let y = sym (coordinate_at a.v a.work.now (3 * a.i + 1) (omega arith)) in
+    ⊎_elim (λ e. rw e y) (λ e. rw e y) c.in-LeastY.is
 
-pub returns : goal.returns
+pub returns-in-LeastZ : goal.returns-in-LeastZ
 unfolding worth_of
-returns c =
+returns-in-LeastZ c =
     let a = c.args in
-    simp (ne_eqb _ _ c.if-kind-eq0.false, ne_eqb _ _ c.if-kind-eq2.false, le-ltb _ _ c.if-kind-lt5.false, le-ltb _ _ c.if-kind-lt7.false)
-    (sym (coordinate_at a.v a.work.now (3 * a.i + 2) (omega arith)))
+    let z = sym (coordinate_at a.v a.work.now (3 * a.i + 2) (omega arith)) in
+    ⊎_elim (λ e. rw e z) (⊎_elim (λ e. rw e z) (λ e. rw e z)) c.in-LeastZ.is

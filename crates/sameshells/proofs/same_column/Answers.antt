@@ -5,7 +5,7 @@ use Prim.Native.Nat.{◌+◌}
 use native.Mathlib.Omega.{arith}
 use lib.ListN.{get_or}
 use Rattle.records.specs.Grown.{none}
-use Rattle.columns.specs.Columns.{field_of}
+use Rattle.columns.specs.Columns.{field_of, kind_of}
 use Rattle.sameshells.specs.Same.{shells_at}
 use Rattle.sameshells.proofs.Compared.{again_begin, again_some, again_shell, again_next, below_next}
 use Rattle.sameshells.proofs.same_column.Goals as goal
@@ -18,14 +18,14 @@ unwrap-next-requires c =
     let a = c.args in
     again_some a.input.now a.from a.shells c.loop-n.n c.loop-n.at c.loop-n.invariant.0 (omega arith) _ c.read_shell.ensures.line
 
-pub returns-then-field_of-work : goal.returns-then-field_of-work
-returns-then-field_of-work c =
+pub returns-then-of-work : goal.returns-then-of-work
+returns-then-of-work c =
     let a = c.args in
     let x = c.unwrap-next.result in
     let same = again_shell a.input.now a.from a.shells c.loop-n.n c.loop-n.at c.loop-n.invariant.0 (omega arith) x.0 x.1 (rw c.unwrap-next.ensures at c.read_shell.ensures.line) in
     record {
       yes = λ e. absurd (false≢true e);
-      so = λ q. absurd (c.if-field_of-work.true (c.field_of.ensures ∙ ap (field_of a.kind) (sym same) ∙ q c.loop-n.n (omega arith)));
+      so = λ q. absurd (c.if-of-work.true (c.of.ensures ∙ ap (field_of (kind_of a.field)) (sym same) ∙ q c.loop-n.n (omega arith)));
     }
 
 pub loop-n-preserved : goal.loop-n-preserved
@@ -35,6 +35,6 @@ loop-n-preserved c =
     let line = rw c.unwrap-next.ensures at c.read_shell.ensures.line in
     let same = again_shell a.input.now a.from a.shells c.loop-n.n c.loop-n.at c.loop-n.invariant.0 (omega arith) x.0 x.1 line in (
       again_next a.input.now a.from a.shells c.loop-n.n c.loop-n.at c.loop-n.invariant.0 (omega arith) x.0 x.1 line,
-      below_next c.loop-n.n (λ n. field_of a.kind (get_or (shells_at a.input.now a.from a.shells) n none) ≡ get_or a.work.now (a.column + n) 0) c.loop-n.invariant.1
-          (ap (field_of a.kind) same ∙ sym c.field_of.ensures ∙ c.if-field_of-work.false),
+      below_next c.loop-n.n (λ n. field_of (kind_of a.field) (get_or (shells_at a.input.now a.from a.shells) n none) ≡ get_or a.work.now (a.column + n) 0) c.loop-n.invariant.1
+          (ap (field_of (kind_of a.field)) same ∙ sym c.of.ensures ∙ c.if-of-work.false),
     )

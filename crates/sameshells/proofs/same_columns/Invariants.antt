@@ -4,6 +4,6 @@ use Rattle.columns.specs.Room.{record_in}
 use Rattle.sameshells.specs.Same.{shells_at, SameField, ColumnLeft}
 use Rattle.sameshells.proofs.same_columns.Given as goal
 
-abbrev pub invariant-loop-kind : goal.invariant-loop-kind
-invariant-loop-kind l =
-    ColumnLeft l.v l.t l.shells l.initial.work l.work × ((k : ℕ) → k < l.kind → SameField (shells_at l.input l.from l.shells) l.shells k (record_in l.v l.t l.initial.work))
+abbrev pub invariant-loop-field : goal.invariant-loop-field
+invariant-loop-field l =
+    ColumnLeft l.v l.t l.shells l.initial.work l.work × ((k : ℕ) → k < l.field-index → SameField (shells_at l.input l.from l.shells) l.shells k (record_in l.v l.t l.initial.work))
