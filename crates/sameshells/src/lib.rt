@@ -49,9 +49,9 @@ fn same_columns(
     ensures left { ColumnLeft v t shells work.old work.new }
 {
     let column = 5 * v + 3 * t;
-    for field in Field::ALL {
-        columns::gather(work, v, t, shells, field);
-        if !same_column(input, from, shells, field, work, column) {
+    for field in &Field::ALL {
+        columns::gather(work, v, t, shells, *field);
+        if !same_column(input, from, shells, *field, work, column) {
             return false;
         }
     }
