@@ -24,4 +24,3 @@ module _ {A : Type 0} {n : ℕ} {f : ℕ → A} {had : List A} where
     long = length-set row i v ∙ filled.long;
     is = rw (filled.is, here) (laid_more i f had (omega arith));
   }
-

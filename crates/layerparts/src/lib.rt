@@ -121,18 +121,16 @@ pub fn hand_triangles(sides: Sides, masks: &[u64], triangles: &mut [u32]) -> u32
     ensures laid { triangles.new ≡ laid (flat (layer_triangles (size_of sides) (words_above sides masks.now) sides.below)) triangles.old }
 {
     let z = sides.below;
-    let tables = Tables::new(sides.nx, sides.ny);
+    let rows = cube::rows();
+    let counts = cube::counts();
+    let offsets = triangles::edge_offsets(sides.nx, sides.ny);
+    let tables = Tables {
+        rows: &rows,
+        counts: &counts,
+        offsets: &offsets,
+    };
     let none_found = [0u64; 0];
     let numbers = [0u32; 0];
-    let end = triangles::write_layer(
-        &tables,
-        masks,
-        &none_found,
-        &numbers,
-        triangles,
-        sides,
-        z,
-        0,
-    );
+    let end = triangles::write_layer(tables, masks, &none_found, &numbers, triangles, sides, z, 0);
     (end / 3) as u32
 }

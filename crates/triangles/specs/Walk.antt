@@ -13,8 +13,8 @@ use Rattle.triangles.specs.Names.{stretch_names, layer_names}
 
 -- the tables are those of all cases
 pub record Read (tables : Tables) : Type 0 where
-  pub rows : Rows tables.rows
-  pub counts : Counts tables.counts
+  pub rows : Rows tables.rows.now
+  pub counts : Counts tables.counts.now
 
 -- a corner's edge is read from the table, and its grid edge can be called by its name
 pub record CornerFits (rows offsets names : List ℕ) (place edge : ℕ) : Type 0 where

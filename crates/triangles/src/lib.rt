@@ -23,28 +23,14 @@ use rows::Sides;
 
 // What the walk along the cubes of a grid reads: the table of their triangles, how many each case has, and how far the grid edge of each cube edge is from the first grid edge of the cube's first corner.
 #[derive(Clone, Copy)]
-pub struct Tables {
-    pub rows: [u8; TABLE],
-    pub counts: [u8; CASES],
-    pub offsets: [usize; 12],
-}
-
-impl Tables {
-    pub fn new(nx: usize, ny: usize) -> Tables
-        requires { (nx ≤ most_side) × (ny ≤ most_side) }
-        ensures read { Read result }
-        ensures offsets { result.offsets ≡ map (edge_offset nx ny) cube_edges }
-    {
-        Tables {
-            rows: cube::rows(),
-            counts: cube::counts(),
-            offsets: edge_offsets(nx, ny),
-        }
-    }
+pub struct Tables<'a> {
+    pub rows: &'a [u8; TABLE],
+    pub counts: &'a [u8; CASES],
+    pub offsets: &'a [usize; 12],
 }
 
 // How far the grid edge of each cube edge is from the first grid edge of the cube's first corner.
-fn edge_offsets(nx: usize, ny: usize) -> [usize; 12]
+pub fn edge_offsets(nx: usize, ny: usize) -> [usize; 12]
     requires { (nx ≤ most_side) × (ny ≤ most_side) }
     ensures { result ≡ map (edge_offset nx ny) cube_edges }
 {
@@ -67,9 +53,9 @@ fn name(names: &[u32], edge: usize) -> u32
 }
 
 // What the grid edge of one corner is called; the corner's cube edge stands in the table at `place`, and `edge` is the first grid edge of the cube's first corner.
-fn corner(tables: &Tables, names: &[u32], place: usize, edge: usize) -> u32
-    requires { CornerFits tables.now.rows tables.now.offsets names.now place edge }
-    ensures { result ≡ corner_name tables.now.offsets names.now edge (get_or tables.now.rows place 0) }
+fn corner(tables: Tables, names: &[u32], place: usize, edge: usize) -> u32
+    requires { CornerFits tables.rows.now tables.offsets.now names.now place edge }
+    ensures { result ≡ corner_name tables.entry.offsets.now names.now edge (get_or tables.entry.rows.now place 0) }
 {
     let e = tables.rows[place] as usize;
     name(names, edge + tables.offsets[e])
@@ -77,7 +63,7 @@ fn corner(tables: &Tables, names: &[u32], place: usize, edge: usize) -> u32
 
 // Writes one cube's triangles; `many` is how many there are, and `edge` the first grid edge of the cube's first corner.
 fn write_cube(
-    tables: &Tables,
+    tables: Tables,
     names: &[u32],
     triangles: &mut [u32],
     case: usize,
@@ -85,9 +71,9 @@ fn write_cube(
     edge: usize,
     at: usize,
 )
-    requires read { Read tables.now }
-    requires cube_room { CubeRoom tables.now.offsets names.now triangles.old case (3 * many) edge at }
-    ensures { triangles.new ≡ sets triangles.old at (cube_names tables.now.offsets names.now edge case) }
+    requires read { Read tables }
+    requires cube_room { CubeRoom tables.offsets.now names.now triangles.old case (3 * many) edge at }
+    ensures { triangles.new ≡ sets triangles.old at (cube_names tables.entry.offsets.now names.now edge case) }
 {
     let from = CASE_LENGTH * case;
     for k in 0..many {
@@ -104,7 +90,7 @@ fn write_cube(
 
 // Writes the triangles of some cubes of a stretch, a bit each, and answers where it stopped; `edge` is the first grid edge of the stretch's first corner.
 fn write_stretch(
-    tables: &Tables,
+    tables: Tables,
     names: &[u32],
     triangles: &mut [u32],
     corners: Corners,
@@ -112,9 +98,9 @@ fn write_stretch(
     edge: usize,
     at: usize,
 ) -> usize
-    requires read { Read tables.now }
-    requires stretch_room { StretchRoom tables.now.offsets names.now triangles.old corners cubes edge at }
-    ensures { Written triangles.old triangles.new at (stretch_names tables.now.offsets names.now corners cubes edge) result }
+    requires read { Read tables }
+    requires stretch_room { StretchRoom tables.offsets.now names.now triangles.old corners cubes edge at }
+    ensures { Written triangles.old triangles.new at (stretch_names tables.entry.offsets.now names.now corners cubes edge) result }
 {
     let mut busy = cubes;
     let mut to = at;
@@ -132,7 +118,7 @@ fn write_stretch(
 
 // Writes the triangles of a layer of cubes, and answers where it stopped; `found` has words of found cubes, or none at all.
 pub fn write_layer(
-    tables: &Tables,
+    tables: Tables,
     masks: &[u64],
     found: &[u64],
     names: &[u32],
@@ -141,12 +127,12 @@ pub fn write_layer(
     z: usize,
     from: usize,
 ) -> usize
-    requires read { Read tables.now }
+    requires read { Read tables }
     requires ready { Ready sides z masks.now }
     requires z_bound { z + 1 < sides.nz }
     requires found_in { FoundIn (size_of sides) (words_above sides masks.now) found.now z }
-    requires layer_room { LayerRoom tables.now.offsets names.now triangles.old sides masks.now z from }
-    ensures { Written triangles.old triangles.new from (layer_names tables.now.offsets names.now sides masks.now z) result }
+    requires layer_room { LayerRoom tables.offsets.now names.now triangles.old sides masks.now z from }
+    ensures { Written triangles.old triangles.new from (layer_names tables.entry.offsets.now names.now sides masks.now z) result }
 {
     let mut at = rows::first(sides, z);
     let mut to = from;
@@ -170,10 +156,17 @@ pub fn write(sides: Sides, masks: &[u64], found: &[u64], names: &[u32], triangle
     ensures { let corners = flat (edge_mesh cubes (size_of sides) (words_above sides masks.now)) in
         triangles.new ≡ laid (map (name_of names.now) corners) triangles.old }
 {
-    let tables = Tables::new(sides.nx, sides.ny);
+    let rows = cube::rows();
+    let counts = cube::counts();
+    let offsets = edge_offsets(sides.nx, sides.ny);
+    let tables = Tables {
+        rows: &rows,
+        counts: &counts,
+        offsets: &offsets,
+    };
     let last = sides.nz - 1;
     let mut to = 0;
     for z in 0..last {
-        to = write_layer(&tables, masks, found, names, triangles, sides, z, to);
+        to = write_layer(tables, masks, found, names, triangles, sides, z, to);
     }
 }

@@ -6,4 +6,4 @@ use Rattle.triangles.proofs.write.Given as goal
 
 abbrev pub invariant-loop-z : goal.invariant-loop-z
 invariant-loop-z l =
-    Written l.initial.triangles l.triangles 0 (join_to l.z (layer_names l.tables.offsets l.names l.sides l.masks)) l.to
+    Written l.initial.triangles l.triangles 0 (join_to l.z (layer_names l.tables.offsets.now l.names l.sides l.masks)) l.to

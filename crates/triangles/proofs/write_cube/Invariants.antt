@@ -7,4 +7,4 @@ use Rattle.triangles.specs.Names.{cube_names}
 use Rattle.triangles.proofs.write_cube.Given as goal
 
 abbrev pub invariant-loop-k : goal.invariant-loop-k
-invariant-loop-k l = l.triangles ≡ sets l.initial.triangles l.at (take (3 * l.k) (cube_names l.tables.offsets l.names l.edge l.case))
+invariant-loop-k l = l.triangles ≡ sets l.initial.triangles l.at (take (3 * l.k) (cube_names l.tables.offsets.now l.names l.edge l.case))

@@ -20,11 +20,11 @@ loop-at-init c =
     let none : first_x a.sides (first_stretch a.sides a.z) ≡ 0 = omega arith in
     subst⁻¹
     (λ at. Stands a.sides a.z at × Within a.sides (first_x a.sides at) at.y
-    × Written a.triangles.now a.triangles.now a.from (named_to a.tables.now.offsets a.names.now a.sides a.masks.now a.z (first_x a.sides at) at.y) a.from)
+    × Written a.triangles.now a.triangles.now a.from (named_to a.tables.offsets.now a.names.now a.sides a.masks.now a.z (first_x a.sides at) at.y) a.from)
     c.first-at.ensures (
       stands_first a.sides ready.fit ready.words a.z ready.from,
       (omega (arith, ready.fit.least_y), λ e. none),
-      rw (none, named_none a.tables.now.offsets a.names.now a.sides a.masks.now a.z) (written_none a.triangles.now a.from),
+      rw (none, named_none a.tables.offsets.now a.names.now a.sides a.masks.now a.z) (written_none a.triangles.now a.from),
     )
 
 -- from a turn back to the function's entry
@@ -53,7 +53,7 @@ write_stretch-to-requires c =
     let a = c.args in
     let l = c.loop-at in record {
       read = c.requires.read;
-      stretch_room = stretch_room a.tables.now.offsets a.names.now a.sides a.masks.now a.z c.requires.ready l.at l.invariant.0 c.loop-at-test.true c.requires.z_bound
+      stretch_room = stretch_room a.tables.offsets.now a.names.now a.sides a.masks.now a.z c.requires.ready l.at l.invariant.0 c.loop-at-test.true c.requires.z_bound
           c.busy_cubes-busy.result
           (busy_is (goal.at.write_stretch-to-requires c).After-busy_cubes-busy)
           l.invariant.2
@@ -71,7 +71,7 @@ pub loop-at-preserved : goal.loop-at-preserved
 loop-at-preserved c =
     let a = c.args in
     let l = c.loop-at in
-    stretch_next a.tables.now.offsets a.names.now a.sides a.masks.now a.z c.requires.ready l.at l.invariant.0 c.loop-at-test.true c.requires.z_bound
+    stretch_next a.tables.offsets.now a.names.now a.sides a.masks.now a.z c.requires.ready l.at l.invariant.0 c.loop-at-test.true c.requires.z_bound
     c.busy_cubes-busy.result
     (busy_is (goal.at.loop-at-preserved c).After-busy_cubes-busy)
     l.invariant.2
@@ -87,7 +87,7 @@ returns c =
     let l = c.loop-at in
     let last : l.at.y ≡ a.sides.ny - 1 = omega (arith, l.invariant.1.0, c.loop-at-test.false) in
     let first = l.invariant.1.1 (omega (arith, last, l.invariant.1.0)) in
-    let named = named_to a.tables.now.offsets a.names.now a.sides a.masks.now a.z in
+    let named = named_to a.tables.offsets.now a.names.now a.sides a.masks.now a.z in
     subst (λ list. Written a.triangles.now l.triangles a.from list l.to)
-    (ap₂ named first last ∙ named_all a.tables.now.offsets a.names.now a.sides a.masks.now a.z)
+    (ap₂ named first last ∙ named_all a.tables.offsets.now a.names.now a.sides a.masks.now a.z)
     l.invariant.2

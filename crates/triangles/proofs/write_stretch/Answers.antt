@@ -20,7 +20,7 @@ use Rattle.triangles.proofs.write_stretch.Goals.{After-case-case, After-shared_s
 
 -- what is written for each cube of the stretch
 abbrev cube_of : Start → ℕ → List ℕ
-cube_of s = busy_names s.args.tables.now.offsets s.args.names.now s.args.corners s.args.cubes s.args.edge
+cube_of s = busy_names s.args.tables.offsets.now s.args.names.now s.args.corners s.args.cubes s.args.edge
 
 pub loop-busy-init : goal.loop-busy-init
 loop-busy-init c =
@@ -43,45 +43,45 @@ place_small c = omega (arith, (c.requires.stretch_room.named (cube_here c) 0 (ne
 -- the cubes before it are written
 written_here : (c : In-loop-busy)
     → let l = c.loop-busy in
-    Written c.args.triangles.now l.triangles c.args.at (join_to (cube_here c) (busy_names c.args.tables.now.offsets c.args.names.now c.args.corners c.args.cubes c.args.edge)) l.to
+    Written c.args.triangles.now l.triangles c.args.at (join_to (cube_here c) (busy_names c.args.tables.offsets.now c.args.names.now c.args.corners c.args.cubes c.args.edge)) l.to
 written_here c =
     let l = c.loop-busy in
     let a = c.args in
     let f = next_here c in
-    rw (join_quiet l.invariant.0 (cube_here c) (busy_names c.args.tables.now.offsets c.args.names.now c.args.corners c.args.cubes c.args.edge) f.from
-    (λ i h k. ap (λ b. cond b (cube_names a.tables.now.offsets a.names.now (a.edge + 3 * i) (word_case a.corners i)) []) (f.quiet i h k)))
+    rw (join_quiet l.invariant.0 (cube_here c) (busy_names c.args.tables.offsets.now c.args.names.now c.args.corners c.args.cubes c.args.edge) f.from
+    (λ i h k. ap (λ b. cond b (cube_names a.tables.offsets.now a.names.now (a.edge + 3 * i) (word_case a.corners i)) []) (f.quiet i h k)))
     l.invariant.4
 
 pub overflow_add-here : goal.overflow_add-here
 overflow_add-here c = omega (arith, place_small (goal.at.overflow_add-here c).In-loop-busy)
 
 -- the case that was read, its count, and what is written for it
-read : (c : After-case-case) → CaseRead c.args.tables.now.counts c.args.corners (count_trailing_zeros word_bits c.loop-busy.busy) c.case-case.result
-read c = case_read c.args.tables.now.counts c.args.corners (count_trailing_zeros word_bits c.loop-busy.busy) _ c.requires.read.counts c.case-case.ensures
+read : (c : After-case-case) → CaseRead c.args.tables.counts.now c.args.corners (count_trailing_zeros word_bits c.loop-busy.busy) c.case-case.result
+read c = case_read c.args.tables.counts.now c.args.corners (count_trailing_zeros word_bits c.loop-busy.busy) _ c.requires.read.counts c.case-case.ensures
 
 abbrev many : After-case-case → ℕ
-many c = 3 * get_or c.args.tables.now.counts c.case-case.result 0
+many c = 3 * get_or c.args.tables.counts.now c.case-case.result 0
 
 cube_written : (c : After-case-case) → NextBit word_bits c.args.cubes c.loop-busy.invariant.0 c.loop-busy.busy (count_trailing_zeros word_bits c.loop-busy.busy)
     → let a = c.args in
-    cube_names a.tables.now.offsets a.names.now (a.edge + 3 * (count_trailing_zeros word_bits c.loop-busy.busy)) c.case-case.result ≡ (busy_names c.args.tables.now.offsets c.args.names.now c.args.corners c.args.cubes c.args.edge) (count_trailing_zeros word_bits c.loop-busy.busy)
+    cube_names a.tables.offsets.now a.names.now (a.edge + 3 * (count_trailing_zeros word_bits c.loop-busy.busy)) c.case-case.result ≡ (busy_names c.args.tables.offsets.now c.args.names.now c.args.corners c.args.cubes c.args.edge) (count_trailing_zeros word_bits c.loop-busy.busy)
 cube_written c f =
     let a = c.args in
     let t = (count_trailing_zeros word_bits c.loop-busy.busy) in
-    ap (cube_names a.tables.now.offsets a.names.now (a.edge + 3 * t)) (read c).is
-    ∙ sym (ap (λ b. cond b (cube_names a.tables.now.offsets a.names.now (a.edge + 3 * t) (word_case a.corners t)) []) f.set)
+    ap (cube_names a.tables.offsets.now a.names.now (a.edge + 3 * t)) (read c).is
+    ∙ sym (ap (λ b. cond b (cube_names a.tables.offsets.now a.names.now (a.edge + 3 * t) (word_case a.corners t)) []) f.set)
 
 many_is : (c : After-case-case) → NextBit word_bits c.args.cubes c.loop-busy.invariant.0 c.loop-busy.busy (count_trailing_zeros word_bits c.loop-busy.busy)
-    → many c ≡ length ((busy_names c.args.tables.now.offsets c.args.names.now c.args.corners c.args.cubes c.args.edge) (count_trailing_zeros word_bits c.loop-busy.busy))
+    → many c ≡ length ((busy_names c.args.tables.offsets.now c.args.names.now c.args.corners c.args.cubes c.args.edge) (count_trailing_zeros word_bits c.loop-busy.busy))
 many_is c f =
     let a = c.args in
-    omega (arith, (read c).counted, length_cube a.tables.now.offsets a.names.now (a.edge + 3 * (count_trailing_zeros word_bits c.loop-busy.busy)) c.case-case.result, ap length (cube_written c f))
+    omega (arith, (read c).counted, length_cube a.tables.offsets.now a.names.now (a.edge + 3 * (count_trailing_zeros word_bits c.loop-busy.busy)) c.case-case.result, ap length (cube_written c f))
 
 room_here : (c : After-case-case) → NextBit word_bits c.args.cubes c.loop-busy.invariant.0 c.loop-busy.busy (count_trailing_zeros word_bits c.loop-busy.busy)
-    → (let l = c.loop-busy in Written c.args.triangles.now l.triangles c.args.at (join_to (count_trailing_zeros word_bits c.loop-busy.busy) (busy_names c.args.tables.now.offsets c.args.names.now c.args.corners c.args.cubes c.args.edge)) l.to)
+    → (let l = c.loop-busy in Written c.args.triangles.now l.triangles c.args.at (join_to (count_trailing_zeros word_bits c.loop-busy.busy) (busy_names c.args.tables.offsets.now c.args.names.now c.args.corners c.args.cubes c.args.edge)) l.to)
     → let a = c.args in
     let l = c.loop-busy in
-    CubeRoom a.tables.now.offsets a.names.now l.triangles c.case-case.result (many c) (a.edge + 3 * (count_trailing_zeros word_bits c.loop-busy.busy)) l.to
+    CubeRoom a.tables.offsets.now a.names.now l.triangles c.case-case.result (many c) (a.edge + 3 * (count_trailing_zeros word_bits c.loop-busy.busy)) l.to
 room_here c f so =
     record {
       small = (read c).small;
@@ -90,7 +90,7 @@ room_here c f so =
       holds = omega (
         arith,
         many_is c f,
-        written_room (join_to (count_trailing_zeros word_bits c.loop-busy.busy) (busy_names c.args.tables.now.offsets c.args.names.now c.args.corners c.args.cubes c.args.edge)) _ _ so (join_room (count_trailing_zeros word_bits c.loop-busy.busy) word_bits (busy_names c.args.tables.now.offsets c.args.names.now c.args.corners c.args.cubes c.args.edge) f.small) c.requires.stretch_room.holds,
+        written_room (join_to (count_trailing_zeros word_bits c.loop-busy.busy) (busy_names c.args.tables.offsets.now c.args.names.now c.args.corners c.args.cubes c.args.edge)) _ _ so (join_room (count_trailing_zeros word_bits c.loop-busy.busy) word_bits (busy_names c.args.tables.offsets.now c.args.names.now c.args.corners c.args.cubes c.args.edge) f.small) c.requires.stretch_room.holds,
       );
     }
 
@@ -122,6 +122,6 @@ returns c =
     let a = c.args in
     let l = c.loop-busy in
     rw (join_quiet l.invariant.0 word_bits (cube_of (goal.at.returns c).Start) l.invariant.1
-    (λ i h k. ap (λ b. cond b (cube_names a.tables.now.offsets a.names.now (a.edge + 3 * i) (word_case a.corners i)) [])
+    (λ i h k. ap (λ b. cond b (cube_names a.tables.offsets.now a.names.now (a.edge + 3 * i) (word_case a.corners i)) [])
     (none_left a.cubes l.invariant.0 l.busy l.invariant.2 c.loop-busy-test.false i h)))
     l.invariant.4
