@@ -18,26 +18,6 @@ const LEVELS: u32 = HALVINGS + 1;
 // Numbers in a summary, 599,186: two for each block of each level. A level after the last would begin here.
 pub const SUMMARY: usize = (2 << (3 * LEVELS)) / 7;
 
-// The rows that a row of blocks is worked out in: the least and the greatest numbers of its columns, and of its blocks.
-#[derive(Clone, Copy)]
-struct Scratch {
-    low: [u16; COLUMNS],
-    high: [u16; COLUMNS],
-    least: [u16; ROW],
-    greatest: [u16; ROW],
-}
-
-impl Scratch {
-    fn new() -> Scratch {
-        Scratch {
-            low: [0; COLUMNS],
-            high: [0; COLUMNS],
-            least: [0; ROW],
-            greatest: [0; ROW],
-        }
-    }
-}
-
 // Where a level begins.
 pub fn level_start(level: u32) -> usize
     requires { level ≤ halvings }
@@ -46,7 +26,7 @@ pub fn level_start(level: u32) -> usize
     (2usize << (3 * level)) / 7
 }
 
-// Row (y, z) of the single cubes.
+// Row (y, z) of the single cubes. The four rows in which it is worked out are four arrays here and below: where they are fields of one struct, the compiler can't tell them apart, and takes a row of halves one block at a time.
 fn cube_row(
     nx: usize,
     ny: usize,
@@ -54,54 +34,46 @@ fn cube_row(
     y: usize,
     z: usize,
     samples: &[u16],
-    rows: &mut Scratch,
+    low: &mut [u16; COLUMNS],
+    high: &mut [u16; COLUMNS],
+    least: &mut [u16; ROW],
+    greatest: &mut [u16; ROW],
 )
     requires sides_fit { SidesFit nx ny nz }
     requires samples_len { length samples.now ≡ sample_count (size nx ny nz) }
     requires y_lt_most_side { (y < most_side) × (z < most_side) }
-    ensures { RowOf (size nx ny nz) samples.now 0 y z most_side rows.new.least rows.new.greatest }
+    ensures { RowOf (size nx ny nz) samples.now 0 y z most_side least.new greatest.new }
 {
-    blockrows::outside(&mut rows.least, &mut rows.greatest);
+    blockrows::outside(least, greatest);
     if y + 1 < ny && z + 1 < nz {
         let first = nx * (y + ny * z);
-        blockrows::columns(
-            samples,
-            first,
-            nx,
-            nx * ny,
-            nx,
-            &mut rows.low,
-            &mut rows.high,
-        );
-        blockrows::cubes(
-            nx - 1,
-            &rows.low,
-            &rows.high,
-            &mut rows.least,
-            &mut rows.greatest,
-        );
+        blockrows::columns(samples, first, nx, nx * ny, nx, low, high);
+        blockrows::cubes(nx - 1, low, high, least, greatest);
     }
 }
 
 // Row (y, z) of another level, from the four rows of its blocks' halves.
-fn half_row(level: u32, y: usize, z: usize, list: &[u16], rows: &mut Scratch)
+fn half_row(
+    level: u32,
+    y: usize,
+    z: usize,
+    list: &[u16],
+    low: &mut [u16; COLUMNS],
+    high: &mut [u16; COLUMNS],
+    least: &mut [u16; ROW],
+    greatest: &mut [u16; ROW],
+)
     requires level_lt_halvings { level < halvings }
     requires y_bound { (y < 2 ^ level) × (z < 2 ^ level) }
     requires list_len { length list.now ≡ summary_length }
-    ensures { HalvesOf list.now level y z rows.new.least rows.new.greatest }
+    ensures { HalvesOf list.now level y z least.new greatest.new }
 {
     let side = 1usize << level;
     let back = 4 * side;
     let up = 2 * side * back;
     let first = level_start(level + 1) + 2 * (back * y + up * z);
-    blockrows::columns(list, first, back, up, back, &mut rows.low, &mut rows.high);
-    blockrows::halves(
-        side,
-        &rows.low,
-        &rows.high,
-        &mut rows.least,
-        &mut rows.greatest,
-    );
+    blockrows::columns(list, first, back, up, back, low, high);
+    blockrows::halves(side, low, high, least, greatest);
 }
 
 // Row (y, z) of any level.
@@ -114,16 +86,19 @@ fn block_row(
     z: usize,
     samples: &[u16],
     list: &[u16],
-    rows: &mut Scratch,
+    low: &mut [u16; COLUMNS],
+    high: &mut [u16; COLUMNS],
+    least: &mut [u16; ROW],
+    greatest: &mut [u16; ROW],
 )
     requires level_fits { LevelFits nx ny nz level samples.now list.now }
     requires y_bound { (y < 2 ^ level) × (z < 2 ^ level) }
-    ensures { RowOf (size nx ny nz) samples.now (halvings - level) y z (2 ^ level) rows.new.least rows.new.greatest }
+    ensures { RowOf (size nx ny nz) samples.now (halvings - level) y z (2 ^ level) least.new greatest.new }
 {
     if level == HALVINGS {
-        cube_row(nx, ny, nz, y, z, samples, rows);
+        cube_row(nx, ny, nz, y, z, samples, low, high, least, greatest);
     } else {
-        half_row(level, y, z, list, rows);
+        half_row(level, y, z, list, low, high, least, greatest);
     }
 }
 
@@ -132,20 +107,30 @@ fn level_differs(nx: usize, ny: usize, nz: usize, level: u32, samples: &[u16], l
     requires { LevelFits nx ny nz level samples.now list.now }
     ensures { Tells (size nx ny nz) samples.now list.now level result }
 {
-    let mut rows = Scratch::new();
+    let mut low = [0; COLUMNS];
+    let mut high = [0; COLUMNS];
+    let mut least = [0; ROW];
+    let mut greatest = [0; ROW];
     let side = 1usize << level;
     let start = level_start(level);
     for row in 0..side * side {
         let z = row >> level;
         let y = row - side * z;
-        block_row(nx, ny, nz, level, y, z, samples, list, &mut rows);
-        if blockrows::differs(
+        block_row(
+            nx,
+            ny,
+            nz,
+            level,
+            y,
+            z,
+            samples,
             list,
-            start + 2 * side * row,
-            side,
-            &rows.least,
-            &rows.greatest,
-        ) {
+            &mut low,
+            &mut high,
+            &mut least,
+            &mut greatest,
+        );
+        if blockrows::differs(list, start + 2 * side * row, side, &least, &greatest) {
             return true;
         }
     }
@@ -174,20 +159,30 @@ fn build_level(nx: usize, ny: usize, nz: usize, level: u32, samples: &[u16], lis
     requires { LevelFits nx ny nz level samples.now list.old }
     ensures { Levelled (size nx ny nz) samples.now level list.old list.new }
 {
-    let mut rows = Scratch::new();
+    let mut low = [0; COLUMNS];
+    let mut high = [0; COLUMNS];
+    let mut least = [0; ROW];
+    let mut greatest = [0; ROW];
     let side = 1usize << level;
     let start = level_start(level);
     for row in 0..side * side {
         let z = row >> level;
         let y = row - side * z;
-        block_row(nx, ny, nz, level, y, z, samples, list, &mut rows);
-        blockrows::store(
+        block_row(
+            nx,
+            ny,
+            nz,
+            level,
+            y,
+            z,
+            samples,
             list,
-            start + 2 * side * row,
-            side,
-            &rows.least,
-            &rows.greatest,
+            &mut low,
+            &mut high,
+            &mut least,
+            &mut greatest,
         );
+        blockrows::store(list, start + 2 * side * row, side, &least, &greatest);
     }
 }
 

@@ -25,8 +25,8 @@ returns-then-z-nz c =
     let a = c.args in
     let n = size a.nx a.ny a.nz in
     record {
-      leasts = λ x l. cubes_row min for_least most_number n a.samples.now a.rows.now.low x a.y a.z l (inside (goal.at.returns-then-z-nz c).Then-z-nz).0 (inside (goal.at.returns-then-z-nz c).Then-z-nz).1 filled.least c.columns.ensures.low c.cubes.ensures.least;
-      greatests = λ x l. cubes_row max for_greatest 0 n a.samples.now a.rows.now.high x a.y a.z l (inside (goal.at.returns-then-z-nz c).Then-z-nz).0 (inside (goal.at.returns-then-z-nz c).Then-z-nz).1 filled.greatest c.columns.ensures.high c.cubes.ensures.greatest;
+      leasts = λ x l. cubes_row min for_least most_number n a.samples.now a.low.now x a.y a.z l (inside (goal.at.returns-then-z-nz c).Then-z-nz).0 (inside (goal.at.returns-then-z-nz c).Then-z-nz).1 filled.least c.columns.ensures.low c.cubes.ensures.least;
+      greatests = λ x l. cubes_row max for_greatest 0 n a.samples.now a.high.now x a.y a.z l (inside (goal.at.returns-then-z-nz c).Then-z-nz).0 (inside (goal.at.returns-then-z-nz c).Then-z-nz).1 filled.greatest c.columns.ensures.high c.cubes.ensures.greatest;
     }
 
 pub returns-else-y-ny : goal.returns-else-y-ny

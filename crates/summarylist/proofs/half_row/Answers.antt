@@ -33,8 +33,8 @@ returns c =
     let first = c.level_start.ensures in
     record {
       leasts = λ x lx.
-          halves_row a.level c.requires.level_lt_halvings a.y a.z min for_least a.list.now a.rows.now.low a.rows.now.least x 0 lx (omega arith) (rw first at c.columns.ensures.low) c.halves.ensures.least
+          halves_row a.level c.requires.level_lt_halvings a.y a.z min for_least a.list.now a.low.now a.least.now x 0 lx (omega arith) (rw first at c.columns.ensures.low) c.halves.ensures.least
           ∙ ap (λ f. gathered min (half f x a.y a.z) eight) (λ i p q r. get_or a.list.now (add-zero (place_of (a.level + 1) p q r) i) 0);
       greatests = λ x lx.
-          halves_row a.level c.requires.level_lt_halvings a.y a.z max for_greatest a.list.now a.rows.now.high a.rows.now.greatest x 1 lx (omega arith) (rw first at c.columns.ensures.high) c.halves.ensures.greatest;
+          halves_row a.level c.requires.level_lt_halvings a.y a.z max for_greatest a.list.now a.high.now a.greatest.now x 1 lx (omega arith) (rw first at c.columns.ensures.high) c.halves.ensures.greatest;
     }
