@@ -9,12 +9,20 @@ use Rattle.grid.specs.Point.{offset}
 use Rattle.grid.specs.Work.{SidesFit}
 use Rattle.rows.specs.declared.Sides.{Sides}
 use Rattle.rows.specs.Rows.{layer_first}
+use Rattle.edgepoints.specs.declared.Axis.{Axis}
+use Rattle.edgepoints.specs.declared.Axis.TheVariants.{X, Y, Z}
 use Rattle.edgepoints.specs.declared.Sample.{Sample}
 use Rattle.edgepoints.specs.declared.Point.{Point}
 
 -- as far as the rule for an offset can come, whatever the samples
 abbrev pub most_offset : ℕ
 most_offset = (2 * unit + 1) * most_number
+
+-- the axes by their numbers
+abbrev pub axis_number : Axis → ℕ
+axis_number X = 0
+axis_number Y = 1
+axis_number Z = 2
 
 -- the three rooms
 pub record PointRooms : Type 0 where

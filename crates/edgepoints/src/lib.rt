@@ -8,7 +8,7 @@ ghost use Rattle.grid.specs.Limits.{most_side};
 ghost use Rattle.grid.specs.Grid.{axes, is_end, some_face, on_face_from};
 ghost use Rattle.grid.specs.Work.{SidesFit, lent_samples};
 ghost use Rattle.rows.specs.Rows.{size_of, grid_samples, next_number};
-ghost use Rattle.edgepoints.specs.EdgePoint.{most_offset, point_rooms, Standing, RoomsFor, Placeable, placed_from, with_placed, step_of, point_by, point_from};
+ghost use Rattle.edgepoints.specs.EdgePoint.{most_offset, axis_number, point_rooms, Standing, RoomsFor, Placeable, placed_from, with_placed, step_of, point_by, point_from};
 
 use grid::limits::UNIT;
 use rows::Sides;
@@ -33,6 +33,38 @@ pub struct Point {
     pub mark: u8,
 }
 
+// An axis, along which an edge leaves its sample.
+#[derive(Clone, Copy, PartialEq, Eq)]
+pub enum Axis {
+    X,
+    Y,
+    Z,
+}
+
+impl Axis {
+    fn number(self) -> u32
+        ensures value { result ≡ axis_number self }
+        ensures below { result < 3 }
+    {
+        match self {
+            Axis::X => 0,
+            Axis::Y => 1,
+            Axis::Z => 2,
+        }
+    }
+
+    // The direction along it.
+    fn direction(self) -> u32
+        ensures { result ≡ 2 ^ axis_number self }
+    {
+        match self {
+            Axis::X => 1,
+            Axis::Y => 2,
+            Axis::Z => 4,
+        }
+    }
+}
+
 // Does an edge lie on an outer face across an axis? It stands at a coordinate, and runs so far along the axis.
 fn is_outer(along: u32, c: usize, side: usize) -> bool
     requires c_lt_side { c < side }
@@ -53,44 +85,30 @@ fn mark_of(sides: Sides, at: Sample, d: u32) -> u8
     u8::from(across_x || across_y || across_z)
 }
 
-// The direction along an axis.
-fn direction_of(axis: u32) -> u32
-    requires { axis < 3 }
-    ensures { result ≡ 2 ^ axis }
-{
-    match axis {
-        0 => 1,
-        1 => 2,
-        _ => 4,
-    }
-}
-
 // How much further on the next sample along an axis stands.
-fn step_of(sides: Sides, axis: u32) -> usize
-    requires sides_fit { SidesFit sides.nx sides.ny sides.nz }
-    requires axis_bound { axis < 3 }
-    ensures { result ≡ step_of (size_of sides) axis }
+fn step_of(sides: Sides, axis: Axis) -> usize
+    requires { SidesFit sides.nx sides.ny sides.nz }
+    ensures { result ≡ step_of (size_of sides) (axis_number axis) }
 {
     match axis {
-        0 => 1,
-        1 => sides.nx,
-        _ => sides.nx * sides.ny,
+        Axis::X => 1,
+        Axis::Y => sides.nx,
+        Axis::Z => sides.nx * sides.ny,
     }
 }
 
 // The point on the edge that leaves a sample along an axis, so far along it.
-fn point_on(sides: Sides, at: Sample, axis: u32, offset: u32) -> Point
+fn point_on(sides: Sides, at: Sample, axis: Axis, offset: u32) -> Point
     requires standing { Standing sides at }
-    requires axis_bound { axis < 3 }
     requires offset_le_most_offset { offset ≤ most_offset }
-    ensures { result ≡ point_by (size_of sides) at.s axis offset }
+    ensures { result ≡ point_by (size_of sides) at.s (axis_number axis) offset }
 {
-    let d = direction_of(axis);
+    let d = axis.direction();
     Point {
         x: UNIT * (at.x as u32) + d % 2 * offset,
         y: UNIT * (at.y as u32) + d / 2 % 2 * offset,
         z: UNIT * (at.z as u32) + d / 4 % 2 * offset,
-        edge: 3 * (at.s as u32) + axis,
+        edge: 3 * (at.s as u32) + axis.number(),
         mark: mark_of(sides, at, d),
     }
 }
@@ -124,7 +142,7 @@ fn sample_at(kept: &[u32], samples: &[u16], place: usize) -> u16
 // Writes the point of the edge that leaves a sample along an axis, if the edge is crossed, and answers the number after it.
 pub fn place_edge(
     cut: bool,
-    axis: u32,
+    axis: Axis,
     sides: Sides,
     grey: u16,
     at: Sample,
@@ -136,11 +154,10 @@ pub fn place_edge(
     marks: &mut [u8],
 ) -> usize
     requires standing { Standing sides at }
-    requires axis_bound { axis < 3 }
-    requires placeable { cut ≡ true → Placeable (size_of sides) (lent_samples kept.now samples.now) at.place axis n (point_rooms points.old edges.old marks.old) }
+    requires placeable { cut ≡ true → Placeable (size_of sides) (lent_samples kept.now samples.now) at.place (axis_number axis) n (point_rooms points.old edges.old marks.old) }
     ensures value { result ≡ next_number cut n }
     ensures marks_after { point_rooms points.new edges.new marks.new
-        ≡ with_placed cut n (point_from (size_of sides) grey (grid_samples sides (lent_samples kept.now samples.now)) at.s axis)
+        ≡ with_placed cut n (point_from (size_of sides) grey (grid_samples sides (lent_samples kept.now samples.now)) at.s (axis_number axis))
         (point_rooms points.old edges.old marks.old) }
 {
     if !cut {
