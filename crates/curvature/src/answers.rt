@@ -16,7 +16,7 @@ pub enum Answer {
     Bent(f64, Vector),
 }
 
-// An answer as plain numbers: its kind, 0 open, 1 flat, 2 bent, its area and its vector; what a kind does not have is +0.0.
+// An answer as plain numbers, as C is told it: its kind, 0 open, 1 flat, 2 bent, its area and its vector; what a kind does not have is +0.0.
 #[derive(Clone, Copy)]
 pub struct Plain {
     pub kind: u32,
