@@ -54,7 +54,7 @@ impl Field {
     }
 
     // How its column is put together.
-    pub fn way(self) -> Way
+    pub(crate) fn way(self) -> Way
         ensures { result ≡ way_of (kind_of self) }
     {
         match self {

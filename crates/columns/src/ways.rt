@@ -11,7 +11,7 @@ pub enum Way {
 
 impl Way {
     // What stands in a column at first.
-    pub fn start(self) -> u32
+    pub(crate) fn start(self) -> u32
         ensures { result ≡ start_by self }
     {
         match self {
@@ -22,7 +22,7 @@ impl Way {
     }
 
     // One more, which brings x.
-    pub fn put(self, had: u32, x: u32) -> u32
+    pub(crate) fn put(self, had: u32, x: u32) -> u32
         requires { put_by self had x < 2 ^ 32 }
         ensures { result ≡ put_by self had x }
     {
