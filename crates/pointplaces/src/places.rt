@@ -5,7 +5,8 @@ ghost use Rattle.rows.specs.Rows.{Stands, own_samples, layer_first};
 ghost use Rattle.edgepoints.specs.EdgePoint.{point_rooms, Standing, RoomsFor};
 ghost use Rattle.pointplaces.specs.Places.{SamplePlaceable, SamplePlaced, Given, number_past, Placed};
 
-use edgepoints::{Axis, Sample, place_edge};
+use edgepoints::Axis::{X, Y, Z};
+use edgepoints::{Sample, place_edge};
 use rows::{Cuts, Sides, Stretch};
 
 // The points of the three edges that leave a sample, from a number on. Answers the number after the last.
@@ -28,13 +29,13 @@ fn place_sample(
         (point_rooms points.new edges.new marks.new) }
 {
     let n = place_edge(
-        cuts.x, Axis::X, sides, grey, at, from, kept, samples, points, edges, marks,
+        cuts.x, X, sides, grey, at, from, kept, samples, points, edges, marks,
     );
     let n = place_edge(
-        cuts.y, Axis::Y, sides, grey, at, n, kept, samples, points, edges, marks,
+        cuts.y, Y, sides, grey, at, n, kept, samples, points, edges, marks,
     );
     place_edge(
-        cuts.z, Axis::Z, sides, grey, at, n, kept, samples, points, edges, marks,
+        cuts.z, Z, sides, grey, at, n, kept, samples, points, edges, marks,
     )
 }
 

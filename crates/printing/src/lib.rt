@@ -33,15 +33,7 @@ fn write_records(
     let mut records = [records::blank(); MOST_SMALL_POINTS];
     let listed = shells::shells(points, triangles, marks, numbers, &mut records, work);
     let shells = listed.unwrap_or(0);
-    meshtext::write_mesh(
-        points,
-        edges,
-        marks,
-        triangles,
-        &records,
-        shells,
-        output,
-    )
+    meshtext::write_mesh(points, edges, marks, triangles, &records, shells, output)
 }
 
 // Lists the shells of a mesh and writes its text. Answers the text's length.

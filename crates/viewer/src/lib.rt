@@ -87,9 +87,7 @@ pub extern "C" fn tholbrina_smooth(
     ensures { Smooths points.now triangles.now marks.now rounds weight
         smoothed.old work.old result smoothed.new work.new }
 {
-    told(smooth::smooth(
-        points, triangles, marks, rounds, weight, smoothed, work,
-    ))
+    told(smooth::smooth(points, triangles, marks, rounds, weight, smoothed, work))
 }
 
 // One point's coordinates out of the raw list, or out of the smoothed one if `second` is not 0. Answers 0 if granted, else the
@@ -131,9 +129,7 @@ pub extern "C" fn tholbrina_curvature(
     ensures { let after = curvesLeft result areas.new vectors.new in
         Curves points.now triangles.now marks.now areas.old vectors.old after }
 {
-    told(curvature::curvature(
-        points, triangles, marks, areas, vectors,
-    ))
+    told(curvature::curvature(points, triangles, marks, areas, vectors))
 }
 
 // One point's answer: its kind, 0 open, 1 flat, 2 bent, its area and its vector; what a kind does not have is +0.0. Answers 0 if granted, else the
