@@ -113,7 +113,7 @@ fn point_on(sides: Sides, at: Sample, axis: Axis, offset: u32) -> Point
     }
 }
 
-// Writes a point to the three rooms, at its number.
+// Writes a point to the three rooms, at its number. They are lent one by one, as C lends them: were they fields of a struct, each function that takes it would promise besides that it holds the same three references.
 fn write_point(p: Point, n: usize, points: &mut [u32], edges: &mut [u32], marks: &mut [u8])
     requires { RoomsFor (n + 1) (point_rooms points.old edges.old marks.old) }
     ensures { point_rooms points.new edges.new marks.new
