@@ -2,7 +2,7 @@
 
 #![tactic(auto)]
 
-ghost use Rattle.std.specs.Prelude.{◌≡◌, Err, min, ltb, length, replicate};
+ghost use Rattle.std.specs.Prelude.{◌≡◌, min, ltb, length};
 ghost use Rattle.grid.specs.Grid.{axes, sample_count, edge_count, is_above_grey};
 ghost use Rattle.grid.specs.Mode.{cubes};
 ghost use Rattle.grid.specs.Work.{size, SidesFit};
@@ -10,7 +10,7 @@ ghost use Rattle.cuberows.specs.Cubes.{FoundCubes};
 ghost use Rattle.extract.specs.Promise.{rooms, answered, Extracts, Measures};
 
 use grid::limits::{MOST_POINTS, MOST_TRIANGLES};
-use grid::refusal::Refusal;
+use grid::refusal::{Refusal, refused_later};
 use masks::MOST_WORDS;
 use rows::Sides;
 
@@ -26,15 +26,6 @@ fn exceeds(count: u32, most: u32, room: usize) -> bool
     ensures { result ≡ ltb (min most room) count }
 {
     most < count || room < count as usize
-}
-
-// A refusal after the lengths leaves the work room zero.
-fn refused_later(refusal: Refusal, work: &mut [u32]) -> Result<Extracted, Refusal>
-    ensures answer { result ≡ Err refusal }
-    ensures zero { work.new ≡ replicate (length work.old) 0 }
-{
-    rooms::clear(work);
-    Err(refusal)
 }
 
 // Points and triangles are counted before anything is written, so that a refusal leaves the rooms. A query lends the words of the cubes that its steps found, the extractor none; the outcome is the same.

@@ -1,5 +1,5 @@
 // Document 01, "Numbers that refuse", and those that document 02 adds.
-ghost use Rattle.std.specs.Prelude.{◌≡◌};
+ghost use Rattle.std.specs.Prelude.{◌≡◌, Err, length, replicate};
 ghost use Rattle.grid.specs.Refusal.{number_of, grid_line, told, told_line};
 
 // Why a call is refused. A malformed line of a text is named.
@@ -63,6 +63,15 @@ impl Refusal {
             _ => 0,
         }
     }
+}
+
+// A refusal that comes after 3 leaves the work room zero.
+pub fn refused_later<T>(refusal: Refusal, work: &mut [u32]) -> Result<T, Refusal>
+    ensures answer { result ≡ Err refusal }
+    ensures zero { work.new ≡ replicate (length work.old) 0 }
+{
+    work.fill(0);
+    Err(refusal)
 }
 
 // What C is told of an answer: 0 if granted, else the refusal's number.
