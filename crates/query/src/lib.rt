@@ -10,7 +10,7 @@ ghost use Rattle.summary.specs.Blocks.{is_summary};
 ghost use Rattle.extract.specs.Promise.{rooms};
 ghost use Rattle.query.specs.Promise.{built_left, query_answered, Builds, Queries, Answers};
 
-use grid::refusal::Refusal;
+use grid::refusal::{Refusal, refused_later};
 use steps::FOUND_WORDS;
 use summarylist::SUMMARY;
 
@@ -108,8 +108,7 @@ pub fn query(
         return Err(Refusal::Room);
     }
     if !summarylist::is_summary(x, y, z, samples, summary) {
-        rooms::clear(work);
-        return Err(Refusal::Summary);
+        return refused_later(Refusal::Summary, work);
     }
     answered(
         x, y, z, grey, samples, summary, points, edges, marks, triangles, work,

@@ -47,9 +47,10 @@ is_summary-requires-clause-sides_fit c = let a = c.args in sides_within a.nx a.n
 pub returns-then-not-is_summary : goal.returns-then-not-is_summary
 returns-then-not-is_summary c =
     let a = c.args in
-    let work = c.clear.new.room in
-    refused_summary a.nx a.ny a.nz a.grey a.samples.now a.summary.now (lent (goal.at.returns-then-not-is_summary c).Start) (fit (goal.at.returns-then-not-is_summary c).Else-not-sides_fit) c.if-samples-count.false c.if-work-count.false work
-    (sym c.is_summary.ensures ∙ c.if-not-is_summary.true) c.clear.ensures
+    let work = c.refused_later.new.work in
+    rw c.refused_later.ensures.answer
+    (refused_summary a.nx a.ny a.nz a.grey a.samples.now a.summary.now (lent (goal.at.returns-then-not-is_summary c).Start) (fit (goal.at.returns-then-not-is_summary c).Else-not-sides_fit) c.if-samples-count.false c.if-work-count.false work
+    (sym c.is_summary.ensures ∙ c.if-not-is_summary.true) c.refused_later.ensures.zero)
 
 pub answered-requires-clause-sides_fit : goal.answered-requires-clause-sides_fit
 answered-requires-clause-sides_fit c = let a = c.args in sides_within a.nx a.ny a.nz (fit (goal.at.answered-requires-clause-sides_fit c).Else-not-sides_fit)
