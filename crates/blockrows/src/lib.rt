@@ -67,7 +67,7 @@ pub fn cubes(
     }
 }
 
-// A row of other blocks, from the columns of their halves' numbers: each half has its least, then its greatest.
+// A row of other blocks, from the columns of their halves' numbers: each half has its least, then its greatest. The cubes' columns stand closer, and have one number each: one loop over both would take the four places as arguments.
 pub fn halves(
     many: usize,
     low: &[u16; COLUMNS],

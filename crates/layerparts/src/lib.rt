@@ -34,7 +34,7 @@ pub fn frame(head: Head, below: usize) -> Sides
     Sides::new(head.nx as usize, head.ny as usize, head.nz as usize, below)
 }
 
-// Are there more in the run than the limit, or more in this call than the room holds?
+// Are there more in the run than the limit, or more in this call than the room holds? The extractor has no run, and its test is one comparison without the sum.
 pub fn exceeds(so_far: u32, count: u32, most: u32, room: usize) -> bool
     ensures { result ≡ too_many most so_far room count }
 {

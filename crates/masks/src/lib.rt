@@ -53,7 +53,7 @@ fn above_flag(sample: u16, grey: u16) -> u8
     u8::from(grey <= sample)
 }
 
-// The same of a kept sample. It is compared in 32 bits, so that the compiler takes eight at a time.
+// The same of a kept sample. It is compared in 32 bits, so that the compiler takes eight at a time. One loop over both kinds is no plainer: it would need a trait of samples, for one line a kind.
 fn kept_flag(number: u32, grey: u16) -> u8
     ensures { result ≡ one_if (leb grey (sample_of number)) }
 {

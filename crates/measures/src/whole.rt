@@ -11,6 +11,7 @@ pub fn float_of(a: i64) -> f64
     a as f64
 }
 
+// The same of a number without a sign. A function for both kinds is no plainer: it would need a trait with this as its law, and two impls.
 pub fn float_of_count(n: u64) -> f64
     requires { n ≤ 2 ^ 53 }
     ensures { result ≡ of_int binary64 (pos n) }

@@ -61,7 +61,7 @@ pub fn write_points(
     at
 }
 
-// The numbers of a triangle's line.
+// The numbers of a triangle's line. Triangles have two loops of their own below: one over both kinds of line would take a closure and the list that it gives for each i, and its contract would be longer than the loop.
 fn triangle_numbers(triangles: &[u32], i: usize) -> [u32; 3]
     requires { 3 * i + 2 < length triangles.now }
     ensures { result ≡ triangle_numbers triangles.now i }

@@ -116,7 +116,7 @@ pub fn read_fields(input: &[u8], from: usize, more: usize, room: &mut [u32]) -> 
     Some(at)
 }
 
-// Reads a line of `count` numbers of 16 bits into the room from `base` on, and answers the place behind it.
+// Reads a line of `count` numbers of 16 bits into the room from `base` on, and answers the place behind it. One function for both widths is no plainer: it would take the bound and a conversion that the bound lets pass.
 pub fn read_row(
     input: &[u8],
     from: usize,

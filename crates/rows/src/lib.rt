@@ -128,7 +128,7 @@ pub fn cubes_mask(sides: Sides, left: usize) -> u64
     }
 }
 
-// The mask of a stretch's own samples.
+// The mask of a stretch's own samples. That of the cubes differs in the row's last word alone; a function for both would only pass that word on.
 fn samples_mask(sides: Sides, left: usize) -> u64
     ensures { result ≡ samples_mask sides left }
 {

@@ -154,7 +154,7 @@ pub fn is_summary(nx: usize, ny: usize, nz: usize, samples: &[u16], list: &[u16]
     true
 }
 
-// Writes a level, from the samples or from the level below it.
+// Writes a level, from the samples or from the level below it. It goes through the rows as `level_differs` does; one walk for both is no plainer: the rows are worked out from the list, which one only reads and the other writes to.
 fn build_level(nx: usize, ny: usize, nz: usize, level: u32, samples: &[u16], list: &mut [u16])
     requires { LevelFits nx ny nz level samples.now list.old }
     ensures { Levelled (size nx ny nz) samples.now level list.old list.new }
