@@ -99,11 +99,14 @@ abbrev pub own_cubes : ℕ → ℕ
 own_cubes left = cond (leb left word_bits) (left - 1) word_cubes
 
 -- the masks of both: the bits of a row's last word, or of all cubes of a word
+abbrev pub stretch_mask : ℕ → ℕ → ℕ
+stretch_mask last left = cond (leb left word_bits) last (2 ^ word_cubes - 1)
+
 abbrev pub samples_mask : Sides → ℕ → ℕ
-samples_mask sides left = cond (leb left word_bits) sides.last (2 ^ word_cubes - 1)
+samples_mask sides left = stretch_mask sides.last left
 
 abbrev pub cubes_mask : Sides → ℕ → ℕ
-cubes_mask sides left = cond (leb left word_bits) (sides.last / 2) (2 ^ word_cubes - 1)
+cubes_mask sides left = stretch_mask (sides.last / 2) left
 
 -- the first stretch of a layer, and the stretch after one
 abbrev pub first_stretch : Sides → ℕ → Stretch

@@ -6,7 +6,7 @@ ghost use Rattle.std.specs.Prelude.{◌≡◌, true, cond, ◌<◌, ◌≤◌, l
 ghost use Rattle.laws.specs.Bits.{word_bits};
 ghost use Rattle.grid.specs.Work.{SidesFit};
 ghost use Rattle.masks.specs.Masks.{row_words};
-ghost use Rattle.rows.specs.Rows.{SidesOf, Ready, Stands, Addable, first_stretch, next_stretch, own_samples, cubes_mask, samples_mask, CutWords, cuts_at};
+ghost use Rattle.rows.specs.Rows.{SidesOf, Ready, Stands, Addable, first_stretch, next_stretch, own_samples, stretch_mask, cubes_mask, CutWords, cuts_at};
 
 use masks::{WORD_CUBES, WORD_SAMPLES};
 
@@ -117,26 +117,22 @@ pub fn next(sides: Sides, at: Stretch) -> Stretch
     }
 }
 
-// The mask of a stretch's cubes, whose first corners are its own samples but for the row's last.
-pub fn cubes_mask(sides: Sides, left: usize) -> u64
-    ensures { result ≡ cubes_mask sides left }
+// The mask of a stretch, where `last` is that of a row's last.
+fn stretch_mask(last: u64, left: usize) -> u64
+    ensures { result ≡ stretch_mask last left }
 {
     if left <= WORD_SAMPLES {
-        sides.last / 2
+        last
     } else {
         ALL_CUBES
     }
 }
 
-// The mask of a stretch's own samples. That of the cubes differs in the row's last word alone; a function for both would only pass that word on.
-fn samples_mask(sides: Sides, left: usize) -> u64
-    ensures { result ≡ samples_mask sides left }
+// The mask of a stretch's cubes, whose first corners are its own samples but for the row's last.
+pub fn cubes_mask(sides: Sides, left: usize) -> u64
+    ensures { result ≡ cubes_mask sides left }
 {
-    if left <= WORD_SAMPLES {
-        sides.last
-    } else {
-        ALL_CUBES
-    }
+    stretch_mask(sides.last / 2, left)
 }
 
 // The word of a neighbouring row, or the row's own where the grid ends, so that an edge which is not there is never crossed.
@@ -159,7 +155,7 @@ pub fn crossed_at(sides: Sides, at: Stretch, z: usize, masks: &[u64]) -> Crossed
     let here = masks[word];
     let behind = neighbour(at.y + 1 < sides.ny, word + sides.words, here, masks);
     let over = neighbour(z + 1 < sides.nz, word + sides.words * sides.ny, here, masks);
-    let own = samples_mask(sides, at.left);
+    let own = stretch_mask(sides.last, at.left);
     Crossed {
         x: (here ^ (here / 2)) & cubes_mask(sides, at.left),
         y: (here ^ behind) & own,

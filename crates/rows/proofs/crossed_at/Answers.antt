@@ -24,5 +24,5 @@ neighbour-over-requires c there =
 pub returns : goal.returns
 returns c =
     let a = c.args in
-    rw (c.cubes_mask.ensures, c.samples_mask-own.ensures, c.neighbour-over.ensures, c.neighbour-behind.ensures)
+    rw (c.cubes_mask.ensures, c.stretch_mask-own.ensures, c.neighbour-over.ensures, c.neighbour-behind.ensures)
     (cut_words a.sides a.masks.now a.z c.requires.ready a.at c.requires.stands c.requires.y_lt_ny c.requires.z_lt_nz)
