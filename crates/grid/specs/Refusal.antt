@@ -4,6 +4,20 @@ use Rattle.std.specs.Result.{result_unwrap_or}
 use Rattle.grid.specs.declared.refusal.Refusal.{Refusal}
 use Rattle.grid.specs.declared.refusal.Refusal.TheVariants.{Side, Samples, Room, Points, Triangles, Lengths, Corners, Coordinates, Marks, Smoothing, Shells, GridLine, Small, Beyond, MeshLine, OtherShells, Layer, Closing, Summary}
 
+-- the numbers of document 02 that are larger: for shells that are not the mesh's, for a layer of wrong length or one too many, for closing early or a second time, and for a lent summary that is not that of
+-- the samples
+abbrev pub shells_differ : ℕ
+shells_differ = 16
+
+abbrev pub layer_amiss : ℕ
+layer_amiss = 17
+
+abbrev pub closed_early : ℕ
+closed_early = 18
+
+abbrev pub no_summary : ℕ
+no_summary = 19
+
 abbrev pub number_of : Refusal → ℕ
 number_of Side = 1
 number_of Samples = 2
@@ -20,10 +34,10 @@ number_of (GridLine at) = 12
 number_of Small = 13
 number_of Beyond = 14
 number_of (MeshLine at) = 15
-number_of OtherShells = 16
-number_of Layer = 17
-number_of Closing = 18
-number_of Summary = 19
+number_of OtherShells = shells_differ
+number_of Layer = layer_amiss
+number_of Closing = closed_early
+number_of Summary = no_summary
 
 -- the malformed line of a grid's text, and that of a mesh's text, which a refusal names; 0 where it names none
 abbrev pub grid_line : Refusal → ℕ

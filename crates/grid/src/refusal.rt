@@ -2,6 +2,15 @@
 ghost use Rattle.std.specs.Prelude.{◌≡◌, Err, length, replicate};
 ghost use Rattle.grid.specs.Refusal.{number_of, grid_line, told, told_line};
 
+// The numbers of document 02 that are larger.
+const SHELLS_DIFFER: u32 = 16;
+
+const LAYER_AMISS: u32 = 17;
+
+const CLOSED_EARLY: u32 = 18;
+
+const NO_SUMMARY: u32 = 19;
+
 // Why a call is refused. A malformed line of a text is named.
 #[derive(Clone, Copy, Debug, PartialEq, Eq)]
 pub enum Refusal {
@@ -47,10 +56,10 @@ impl Refusal {
             Refusal::Small => 13,
             Refusal::Beyond => 14,
             Refusal::MeshLine(_) => 15,
-            Refusal::OtherShells => 16,
-            Refusal::Layer => 17,
-            Refusal::Closing => 18,
-            Refusal::Summary => 19,
+            Refusal::OtherShells => SHELLS_DIFFER,
+            Refusal::Layer => LAYER_AMISS,
+            Refusal::Closing => CLOSED_EARLY,
+            Refusal::Summary => NO_SUMMARY,
         }
     }
 

@@ -2,6 +2,7 @@
 use Rattle.std.specs.Prelude.{List, ◌++◌, cond, not, ◌||◌, ℕ, zero, suc, ◌-◌, ◌/◌, min, eqb, leb, ltb, length}
 use Rattle.laws.specs.Room.{laid}
 use Rattle.laws.specs.Mesh.{flat}
+pub use Rattle.grid.specs.Refusal.{layer_amiss, closed_early}
 use Rattle.grid.specs.Limits.{most_points, most_triangles}
 use Rattle.grid.specs.Sides.{sides_fit}
 use Rattle.rows.specs.Rows.{zeros_below}
@@ -34,13 +35,6 @@ pub record Outcome : Type 0 where
   pub triangle_count : ℕ
   pub rooms : Rooms
   pub state : List ℕ
-
--- the numbers for a layer of wrong length or one too many, and for closing early or a second time
-abbrev pub layer_amiss : ℕ
-layer_amiss = 17
-
-abbrev pub closed_early : ℕ
-closed_early = 18
 
 -- What a layer hands out. The volume is the kept layer and the new one in their places z and z + 1, with zeros below; the first layer hands out nothing.
 unfoldable pub layer_hands : State → ℕ → List ℕ → Handed

@@ -2,6 +2,7 @@
 use Rattle.std.specs.Prelude.{◌≡◌, List, Bool, true, false, cond, not, ℕ, ◌+◌, ◌*◌, ◌/◌, min, eqb, ltb, length, replicate}
 use Rattle.laws.specs.Room.{laid}
 use Rattle.laws.specs.Values.{list_to}
+pub use Rattle.grid.specs.Refusal.{shells_differ}
 use Rattle.grid.specs.Limits.{most_points, most_triangles}
 use Rattle.mesh.specs.Mesh.{triangles_of}
 use Rattle.mesh.specs.Check.{mesh_number}
@@ -128,10 +129,6 @@ said input l = with_counts l (read_counts input)
 -- the records of a mesh's own shells
 abbrev pub own_records : Mesh → List ℕ → ℕ → List Shell
 own_records m found shells = list_to shells (record_of m.points m.triangles m.marks found)
-
--- the number of the refusal where they are others
-abbrev pub shells_differ : ℕ
-shells_differ = 16
 
 -- these are the shell numbers of its points, and there are so many shells
 abbrev pub Numbered : Mesh → List ℕ → ℕ → Type 0

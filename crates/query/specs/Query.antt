@@ -1,5 +1,6 @@
 -- What building a summary and a query by it leave behind (document 02, (vi)).
 use Rattle.std.specs.Prelude.{List, cond, not, ℕ, eqb, length}
+pub use Rattle.grid.specs.Refusal.{no_summary}
 use Rattle.grid.specs.Limits.{halvings}
 use Rattle.grid.specs.Sides.{sides_fit}
 use Rattle.grid.specs.Grid.{axes, sample_count, edge_count}
@@ -21,10 +22,6 @@ built nx ny nz samples room =
     cond (not (sides_fit nx ny nz)) (record { number = 1; room = room })
     (cond (not (eqb (length samples) (sample_count n))) (record { number = 2; room = room })
     (cond (not (eqb (length room) summary_length)) (record { number = 3; room = room }) (record { number = 0; room = summary_of n samples })))
-
--- the refusal of a lent summary that is not that of the samples
-abbrev pub no_summary : ℕ
-no_summary = 19
 
 -- ---- a query: the extractor's outcome with a third count, of the blocks looked at
 pub record Queried : Type 0 where
