@@ -14,18 +14,20 @@ ghost use Rattle.columns.specs.Turns.{PointTurn, TriangleTurn};
 use ways::Way;
 
 mod field;
+mod parts;
 mod ways;
 
 pub use field::Field;
+pub use parts::Parts;
 
 // What point i brings to the column of a field of points: its number, its mark or a coordinate. A count does not look at it.
-fn worth(work: &[u32], v: usize, field: Field, i: usize) -> u32
-    requires { (i < v) × (v ≤ most_points) × (4 * v ≤ length work.now) }
-    ensures { result ≡ worth_of (kind_of field) (points_in v work.now) (marks_in v work.now) i }
+fn worth(work: &[u32], parts: Parts, field: Field, i: usize) -> u32
+    requires { (i < parts.points) × (parts.points ≤ most_points) × (4 * parts.points ≤ length work.now) }
+    ensures { result ≡ worth_of (kind_of field) (points_in parts.points work.now) (marks_in parts.points work.now) i }
 {
     match field {
         Field::Low => i as u32,
-        Field::Touches => work[3 * v + i],
+        Field::Touches => work[parts.marks_at() + i],
         Field::Points | Field::LeastX | Field::GreatestX => work[3 * i],
         Field::LeastY | Field::GreatestY => work[3 * i + 1],
         Field::LeastZ | Field::GreatestZ | Field::Triangles => work[3 * i + 2],
@@ -41,60 +43,60 @@ pub fn fill(work: &mut [u32], from: usize, count: usize, x: u32)
 }
 
 // Point i into its shell's place of the column.
-fn add_point(work: &mut [u32], v: usize, t: usize, field: Field, way: Way, i: usize)
-    requires { PointTurn v t (kind_of field) way work.old i }
+fn add_point(work: &mut [u32], parts: Parts, field: Field, way: Way, i: usize)
+    requires { PointTurn parts.points parts.triangles (kind_of field) way work.old i }
     ensures { let room = work.old in
-        work.new ≡ put_at way (column_at v t + point_number v t room i) (worth_of (kind_of field) (points_in v room) (marks_in v room) i) room }
+        work.new ≡ put_at way (column_at parts.points parts.triangles + point_number parts.points parts.triangles room i) (worth_of (kind_of field) (points_in parts.points room) (marks_in parts.points room) i) room }
 {
-    let at = 5 * v + 3 * t + work[4 * v + 3 * t + i] as usize;
-    let x = worth(work, v, field, i);
+    let at = parts.column_at() + work[parts.numbers_at() + i] as usize;
+    let x = worth(work, parts, field, i);
     work[at] = way.put(work[at], x);
 }
 
 // Triangle k counted in its shell's place of the column.
-fn add_triangle(work: &mut [u32], v: usize, t: usize, k: usize)
-    requires { TriangleTurn v t work.old k }
+fn add_triangle(work: &mut [u32], parts: Parts, k: usize)
+    requires { TriangleTurn parts.points parts.triangles work.old k }
     ensures { let room = work.old in
-        work.new ≡ put_at Count (column_at v t + triangle_number v t room k) 0 room }
+        work.new ≡ put_at Count (column_at parts.points parts.triangles + triangle_number parts.points parts.triangles room k) 0 room }
 {
-    let first = work[4 * v + 3 * k] as usize;
-    let at = 5 * v + 3 * t + work[4 * v + 3 * t + first] as usize;
+    let first = work[parts.triangles_at() + 3 * k] as usize;
+    let at = parts.column_at() + work[parts.numbers_at() + first] as usize;
     work[at] += 1;
 }
 
 // The column of a field, from all points.
-fn gather_points(work: &mut [u32], v: usize, t: usize, shells: usize, field: Field)
-    requires { StandsIn shells v t work.old }
+fn gather_points(work: &mut [u32], parts: Parts, shells: usize, field: Field)
+    requires { StandsIn shells parts.points parts.triangles work.old }
     ensures { let room = work.old in
-        work.new ≡ sets room (column_at v t) (list_to shells (column_to (way_of (kind_of field)) (point_number v t room) (worth_of (kind_of field) (points_in v room) (marks_in v room)) v)) }
+        work.new ≡ sets room (column_at parts.points parts.triangles) (list_to shells (column_to (way_of (kind_of field)) (point_number parts.points parts.triangles room) (worth_of (kind_of field) (points_in parts.points room) (marks_in parts.points room)) parts.points)) }
 {
     let way = field.way();
-    fill(work, 5 * v + 3 * t, shells, way.start());
-    for i in 0..v {
-        add_point(work, v, t, field, way, i);
+    fill(work, parts.column_at(), shells, way.start());
+    for i in 0..parts.points {
+        add_point(work, parts, field, way, i);
     }
 }
 
 // The column of triangles.
-fn gather_triangles(work: &mut [u32], v: usize, t: usize, shells: usize)
-    requires { StandsIn shells v t work.old }
+fn gather_triangles(work: &mut [u32], parts: Parts, shells: usize)
+    requires { StandsIn shells parts.points parts.triangles work.old }
     ensures { let room = work.old in
-        work.new ≡ sets room (column_at v t) (list_to shells (column_to Count (triangle_number v t room) (λ k. 0) t)) }
+        work.new ≡ sets room (column_at parts.points parts.triangles) (list_to shells (column_to Count (triangle_number parts.points parts.triangles room) (λ k. 0) parts.triangles)) }
 {
-    fill(work, 5 * v + 3 * t, shells, 0);
-    for k in 0..t {
-        add_triangle(work, v, t, k);
+    fill(work, parts.column_at(), shells, 0);
+    for k in 0..parts.triangles {
+        add_triangle(work, parts, k);
     }
 }
 
 // The column of a field: that field of every shell's record, from the mesh and the shell numbers that stand in the room.
-pub fn gather(work: &mut [u32], v: usize, t: usize, shells: usize, field: Field)
-    requires { StandsIn shells v t work.old }
+pub fn gather(work: &mut [u32], parts: Parts, shells: usize, field: Field)
+    requires { StandsIn shells parts.points parts.triangles work.old }
     ensures { let room = work.old in
-        work.new ≡ sets room (column_at v t) (list_to shells (λ n. field_of (kind_of field) (record_in v t room n))) }
+        work.new ≡ sets room (column_at parts.points parts.triangles) (list_to shells (λ n. field_of (kind_of field) (record_in parts.points parts.triangles room n))) }
 {
     match field {
-        Field::Triangles => gather_triangles(work, v, t, shells),
-        _ => gather_points(work, v, t, shells, field),
+        Field::Triangles => gather_triangles(work, parts, shells),
+        _ => gather_points(work, parts, shells, field),
     }
 }

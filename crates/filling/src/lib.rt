@@ -8,6 +8,7 @@ ghost use Rattle.grid.specs.Limits.{most_points};
 ghost use Rattle.judge.specs.Judged.{edges_at, marks_on};
 ghost use Rattle.filling.specs.Filled.{PointsThere, MarksFit, Fillable, ListsFilled};
 
+use columns::Parts;
 use judge::Judged;
 use meshrows::read_point;
 
@@ -42,12 +43,14 @@ pub fn fill_lists(
     requires { Fillable input.now judged points.old edges.old marks.old triangles.old work.old }
     ensures { ListsFilled input.now judged points.old points.new edges.old edges.new marks.old marks.new triangles.old triangles.new work.old work.new }
 {
-    let v = judged.counts.points as usize;
-    let from = judged.points_at;
-    let coordinates = 3 * v;
-    let corners = 3 * (judged.counts.triangles as usize);
+    let parts = Parts {
+        points: judged.counts.points as usize,
+        triangles: judged.counts.triangles as usize,
+    };
+    let coordinates = 3 * parts.points;
+    let corners = 3 * parts.triangles;
     points[..coordinates].copy_from_slice(&work[..coordinates]);
-    triangles[..corners].copy_from_slice(&work[4 * v..4 * v + corners]);
-    fill_points(input, from, v, edges, marks);
+    triangles[..corners].copy_from_slice(&work[parts.triangles_at()..parts.numbers_at()]);
+    fill_points(input, judged.points_at, parts.points, edges, marks);
     work.fill(0);
 }

@@ -12,6 +12,7 @@ ghost use Rattle.meshread.specs.Promise.{room_number, with_lines};
 ghost use Rattle.meshform.specs.Form.{counts_for};
 ghost use Rattle.judge.specs.Judged.{Standing, JudgesShells, JudgesMesh, JudgesSaid, lengths_for, Judges};
 
+use columns::Parts;
 use grid::limits::{MOST_POINTS, MOST_TRIANGLES};
 use grid::refusal::Refusal;
 use meshform::take_lines;
@@ -38,7 +39,8 @@ fn refused_later(refusal: Refusal, work: &mut [u32]) -> Result<Judged, Refusal>
 // Refuses with the first of 4, 5, 11 and 3 that holds of line 1's numbers and the rooms.
 #[tactic(auto, unfolding(meshread::specs::Promise::room_number))]
 fn check_rooms(
-    counts: Counts,
+    parts: Parts,
+    shells: usize,
     points: usize,
     edges: usize,
     marks: usize,
@@ -46,20 +48,20 @@ fn check_rooms(
     records: usize,
     work: usize,
 ) -> Result<(), Refusal>
-    ensures { told result ≡ room_number (counts_for counts.points counts.triangles counts.shells) (lengths_for points edges marks triangles records work) }
+    ensures { told result ≡ room_number (counts_for parts.points parts.triangles shells) (lengths_for points edges marks triangles records work) }
 {
     let point_room = (MOST_POINTS as usize).min((points / 3).min(edges.min(marks)));
-    if point_room < counts.points as usize {
+    if point_room < parts.points {
         return Err(Refusal::Points);
     }
     let triangle_room = (MOST_TRIANGLES as usize).min(triangles / 3);
-    if triangle_room < counts.triangles as usize {
+    if triangle_room < parts.triangles {
         return Err(Refusal::Triangles);
     }
-    if records < counts.shells as usize {
+    if records < shells {
         return Err(Refusal::Shells);
     }
-    if work != 6 * (counts.points as usize) + 3 * (counts.triangles as usize) {
+    if work != parts.work_length() {
         return Err(Refusal::Room);
     }
     Ok(())
@@ -68,26 +70,25 @@ fn check_rooms(
 // The shells of a mesh that passed 7 to 9: they are those of the lines, or 16.
 fn judge_shells(
     input: &[u8],
-    v: usize,
-    t: usize,
+    parts: Parts,
     shells: usize,
     from: usize,
     next: usize,
     work: &mut [u32],
 ) -> Result<Judged, Refusal>
-    requires { Standing v t shells input.now from next work.old × (mesh_number (points_in v work.old) (triangles_in v t work.old) (marks_in v work.old) ≡ 0) }
-    ensures { JudgesShells v t shells input.now from next work.old result work.new }
+    requires { Standing parts.points parts.triangles shells input.now from next work.old × (mesh_number (points_in parts.points work.old) (triangles_in parts.points parts.triangles work.old) (marks_in parts.points work.old) ≡ 0) }
+    ensures { JudgesShells parts.points parts.triangles shells input.now from next work.old result work.new }
 {
-    let own = number_shells(work, v, t);
+    let own = number_shells(work, parts);
     if own != shells {
         return refused_later(Refusal::OtherShells, work);
     }
-    if !same_shells(input, next, shells, work, v, t) {
+    if !same_shells(input, next, shells, work, parts) {
         return refused_later(Refusal::OtherShells, work);
     }
     let counts = Counts {
-        points: v as u32,
-        triangles: t as u32,
+        points: parts.points as u32,
+        triangles: parts.triangles as u32,
         shells: shells as u32,
     };
     Ok(Judged {
@@ -100,36 +101,34 @@ fn judge_shells(
 // 7, 8 and 9, and then the shells.
 fn judge_mesh(
     input: &[u8],
-    v: usize,
-    t: usize,
+    parts: Parts,
     shells: usize,
     from: usize,
     next: usize,
     work: &mut [u32],
 ) -> Result<Judged, Refusal>
-    requires { Standing v t shells input.now from next work.old }
-    ensures { JudgesMesh v t shells input.now from next work.old result work.new }
+    requires { Standing parts.points parts.triangles shells input.now from next work.old }
+    ensures { JudgesMesh parts.points parts.triangles shells input.now from next work.old result work.new }
 {
-    if let Err(refusal) = mesh_number(work, v, t) {
+    if let Err(refusal) = mesh_number(work, parts) {
         return refused_later(refusal, work);
     }
-    judge_shells(input, v, t, shells, from, next, work)
+    judge_shells(input, parts, shells, from, next, work)
 }
 
 // 15 for the lines behind line 1, and then the mesh that they say.
 fn judge_lines(
     input: &[u8],
-    v: usize,
-    t: usize,
+    parts: Parts,
     shells: usize,
     from: usize,
     work: &mut [u32],
 ) -> Result<Judged, Refusal>
-    requires { (v ≤ most_points) × (t ≤ most_triangles) × (shells < 2 ^ 32) × (length work.old ≡ work_length v t) }
-    ensures { JudgesSaid (with_lines (read_lines_of (counts_for v t shells) (drop from input.now))) input.now work.old result work.new }
+    requires { (parts.points ≤ most_points) × (parts.triangles ≤ most_triangles) × (shells < 2 ^ 32) × (length work.old ≡ work_length parts.points parts.triangles) }
+    ensures { JudgesSaid (with_lines (read_lines_of (counts_for parts.points parts.triangles shells) (drop from input.now))) input.now work.old result work.new }
 {
-    match take_lines(input, from, v, t, shells, work) {
-        Ok(next) => judge_mesh(input, v, t, shells, from, next, work),
+    match take_lines(input, from, parts, shells, work) {
+        Ok(next) => judge_mesh(input, parts, shells, from, next, work),
         Err(line) => refused_later(Refusal::MeshLine(line), work),
     }
 }
@@ -149,13 +148,12 @@ pub fn judge(
     let Some((counts, next)) = read_counts(input) else {
         return Err(Refusal::MeshLine(1));
     };
-    check_rooms(counts, points, edges, marks, triangles, records, work.len())?;
-    judge_lines(
-        input,
-        counts.points as usize,
-        counts.triangles as usize,
-        counts.shells as usize,
-        next,
-        work,
-    )
+    let parts = Parts {
+        points: counts.points as usize,
+        triangles: counts.triangles as usize,
+    };
+    let shells = counts.shells as usize;
+    let length = work.len();
+    check_rooms(parts, shells, points, edges, marks, triangles, records, length)?;
+    judge_lines(input, parts, shells, next, work)
 }

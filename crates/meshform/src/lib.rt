@@ -7,26 +7,27 @@ ghost use Rattle.grid.specs.Limits.{most_points, most_triangles};
 ghost use Rattle.columns.specs.Room.{work_length};
 ghost use Rattle.meshform.specs.Form.{counts_for, TakesPoint, TakesTriangle, point_lines, triangle_lines, last_lines, with_points, with_triangles, Passes, Anything, Forms};
 
+use columns::Parts;
 use meshrows::{read_point, read_shell, read_triangle};
 
-// Takes the line of point i of v: its place and its mark go to the room. Answers the place behind the line, and the least edge number that may follow.
+// Takes the line of point i: its place and its mark go to the room. Answers the place behind the line, and the least edge number that may follow.
 fn take_point(
     input: &[u8],
     from: usize,
     bound: u64,
     i: usize,
-    v: usize,
+    parts: Parts,
     work: &mut [u32],
 ) -> Option<(usize, u64)>
-    requires { (i < v) × (v ≤ most_points) × (4 * v ≤ length work.old) }
-    ensures { TakesPoint input.now from bound i v work.old result work.new }
+    requires { (i < parts.points) × (parts.points ≤ most_points) × (4 * parts.points ≤ length work.old) }
+    ensures { TakesPoint input.now from bound i parts.points work.old result work.new }
 {
     let (numbers, next) = read_point(input, from, bound)?;
     let at = 3 * i;
     work[at] = numbers[1];
     work[at + 1] = numbers[2];
     work[at + 2] = numbers[3];
-    work[3 * v + i] = numbers[4];
+    work[parts.marks_at() + i] = numbers[4];
     Some((next, (numbers[0] as u64) + 1))
 }
 
@@ -43,14 +44,14 @@ fn take_triangle(input: &[u8], from: usize, at: usize, work: &mut [u32]) -> Opti
 }
 
 // Takes the lines of all points, from line 2 on. This pass and the two after it answer the place behind their lines, or the first malformed line.
-fn take_points(input: &[u8], from: usize, v: usize, work: &mut [u32]) -> Result<usize, u64>
-    requires { (v ≤ most_points) × (4 * v ≤ length work.old) }
-    ensures { Passes (point_lines v (drop from input.now)) input.now result (λ vs. work.new ≡ with_points v vs work.old) }
+fn take_points(input: &[u8], from: usize, parts: Parts, work: &mut [u32]) -> Result<usize, u64>
+    requires { (parts.points ≤ most_points) × (4 * parts.points ≤ length work.old) }
+    ensures { Passes (point_lines parts.points (drop from input.now)) input.now result (λ vs. work.new ≡ with_points parts.points vs work.old) }
 {
     let mut at = from;
     let mut bound = 0;
-    for i in 0..v {
-        let Some((next, least)) = take_point(input, at, bound, i, v, work) else {
+    for i in 0..parts.points {
+        let Some((next, least)) = take_point(input, at, bound, i, parts, work) else {
             return Err((i as u64) + 2);
         };
         at = next;
@@ -59,22 +60,21 @@ fn take_points(input: &[u8], from: usize, v: usize, work: &mut [u32]) -> Result<
     Ok(at)
 }
 
-// Takes the lines of all triangles, behind those of v points.
+// Takes the lines of all triangles, behind those of the points.
 fn take_triangles(
     input: &[u8],
     from: usize,
-    v: usize,
-    t: usize,
+    parts: Parts,
     work: &mut [u32],
 ) -> Result<usize, u64>
-    requires { (v ≤ most_points) × (t ≤ most_triangles) × (4 * v + 3 * t ≤ length work.old) }
-    ensures { Passes (triangle_lines t (2 + v) (drop from input.now)) input.now result (λ ts. work.new ≡ with_triangles v ts work.old) }
+    requires { (parts.points ≤ most_points) × (parts.triangles ≤ most_triangles) × (4 * parts.points + 3 * parts.triangles ≤ length work.old) }
+    ensures { Passes (triangle_lines parts.triangles (2 + parts.points) (drop from input.now)) input.now result (λ ts. work.new ≡ with_triangles parts.points ts work.old) }
 {
-    let base = 4 * v;
+    let base = parts.triangles_at();
     let mut at = from;
-    for k in 0..t {
+    for k in 0..parts.triangles {
         let Some(next) = take_triangle(input, at, base + 3 * k, work) else {
-            return Err((2 + v + k) as u64);
+            return Err((2 + parts.points + k) as u64);
         };
         at = next;
     }
@@ -99,21 +99,20 @@ fn pass_shells(input: &[u8], from: usize, first: u64, shells: usize) -> Result<u
     Ok(at)
 }
 
-// Takes the lines of v points and t triangles from a place on, and passes over those of the shells. Answers the place where the lines of the shells begin, or the first
+// Takes the lines of the points and triangles from a place on, and passes over those of the shells. Answers the place where the lines of the shells begin, or the first
 // malformed line.
 pub fn take_lines(
     input: &[u8],
     from: usize,
-    v: usize,
-    t: usize,
+    parts: Parts,
     shells: usize,
     work: &mut [u32],
 ) -> Result<usize, u64>
-    requires { (v ≤ most_points) × (t ≤ most_triangles) × (shells < 2 ^ 32) × (length work.old ≡ work_length v t) }
-    ensures { Forms (counts_for v t shells) input.now from result work.new }
+    requires { (parts.points ≤ most_points) × (parts.triangles ≤ most_triangles) × (shells < 2 ^ 32) × (length work.old ≡ work_length parts.points parts.triangles) }
+    ensures { Forms (counts_for parts.points parts.triangles shells) input.now from result work.new }
 {
-    let triangles_at = take_points(input, from, v, work)?;
-    let shells_at = take_triangles(input, triangles_at, v, t, work)?;
-    pass_shells(input, shells_at, (2 + v + t) as u64, shells)?;
+    let triangles_at = take_points(input, from, parts, work)?;
+    let shells_at = take_triangles(input, triangles_at, parts, work)?;
+    pass_shells(input, shells_at, (2 + parts.points + parts.triangles) as u64, shells)?;
     Ok(shells_at)
 }

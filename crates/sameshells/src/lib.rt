@@ -9,7 +9,7 @@ ghost use Rattle.sameshells.specs.Same.{shells_at, LinesThere, Decides, SameColu
 ghost use Rattle.laws.specs.Values.{list_to};
 ghost use Rattle.volumes.specs.Volumes.{volume_read};
 
-use columns::Field;
+use columns::{Field, Parts};
 use meshrows::read_shell;
 
 // Is one field of every shell what stands from a place of the room on? Each line is known to be well formed.
@@ -41,16 +41,15 @@ fn same_columns(
     from: usize,
     shells: usize,
     work: &mut [u32],
-    v: usize,
-    t: usize,
+    parts: Parts,
 ) -> bool
-    requires { LinesThere input.now from shells × StandsIn shells v t work.old }
-    ensures same { Decides result (SameFields (shells_at input.now from shells) shells (record_in v t work.old)) }
-    ensures left { ColumnLeft v t shells work.old work.new }
+    requires { LinesThere input.now from shells × StandsIn shells parts.points parts.triangles work.old }
+    ensures same { Decides result (SameFields (shells_at input.now from shells) shells (record_in parts.points parts.triangles work.old)) }
+    ensures left { ColumnLeft parts.points parts.triangles shells work.old work.new }
 {
-    let column = 5 * v + 3 * t;
+    let column = parts.column_at();
     for field in &Field::ALL {
-        columns::gather(work, v, t, shells, *field);
+        columns::gather(work, parts, shells, *field);
         if !same_column(input, from, shells, *field, work, column) {
             return false;
         }
@@ -59,14 +58,14 @@ fn same_columns(
 }
 
 // Is the volume of every shell what its two words in the room hold? Each line is known to be well formed.
-fn same_words(input: &[u8], from: usize, shells: usize, work: &[u32], v: usize, t: usize) -> bool
-    requires { LinesThere input.now from shells × WordsThere shells v t work.now }
-    ensures { Decides result (SameVolumes (shells_at input.now from shells) shells (volume_read v t work.now)) }
+fn same_words(input: &[u8], from: usize, shells: usize, work: &[u32], parts: Parts) -> bool
+    requires { LinesThere input.now from shells × WordsThere shells parts.points parts.triangles work.now }
+    ensures { Decides result (SameVolumes (shells_at input.now from shells) shells (volume_read parts.points parts.triangles work.now)) }
 {
     let mut at = from;
     for n in 0..shells {
         let (shell, next) = read_shell(input, at).unwrap();
-        if shell.volume != volumes::volume_at(work, v, t, n) {
+        if shell.volume != volumes::volume_at(work, parts, n) {
             return false;
         }
         at = next;
@@ -80,16 +79,15 @@ pub fn same_shells(
     from: usize,
     shells: usize,
     work: &mut [u32],
-    v: usize,
-    t: usize,
+    parts: Parts,
 ) -> bool
-    requires { LinesThere input.now from shells × StandsIn shells v t work.old }
-    ensures same { Decides result (shells_at input.now from shells ≡ list_to shells (record_in v t work.old)) }
-    ensures left { MeshLeft v t work.old work.new }
+    requires { LinesThere input.now from shells × StandsIn shells parts.points parts.triangles work.old }
+    ensures same { Decides result (shells_at input.now from shells ≡ list_to shells (record_in parts.points parts.triangles work.old)) }
+    ensures left { MeshLeft parts.points parts.triangles work.old work.new }
 {
-    if !same_columns(input, from, shells, work, v, t) {
+    if !same_columns(input, from, shells, work, parts) {
         return false;
     }
-    volumes::gather_volumes(work, v, t, shells);
-    same_words(input, from, shells, work, v, t)
+    volumes::gather_volumes(work, parts, shells);
+    same_words(input, from, shells, work, parts)
 }

@@ -9,7 +9,7 @@ ghost use Rattle.columns.specs.Room.{ShellsStand, work_length, points_in, triang
 ghost use Rattle.volumes.specs.Volumes.{volume_in, stored_volume, high_word, low_word, words_in, with_words, all_words, volume_read};
 ghost use Rattle.volumes.specs.Turns.{changed, corners_at, Turnable, VolumeTurn};
 
-use columns::fill;
+use columns::{Parts, fill};
 use mesh::place_of;
 use records::volume::{MOST_VOLUME, diagonals};
 
@@ -37,20 +37,20 @@ fn joined(high: u32, low: u32) -> u64
 }
 
 // The number that stands in shell n's two words.
-fn words_at(work: &[u32], v: usize, t: usize, n: usize) -> u64
-    requires { (n < v) × (length work.now ≡ work_length v t) }
-    ensures { result ≡ words_in v t work.now n }
+fn words_at(work: &[u32], parts: Parts, n: usize) -> u64
+    requires { (n < parts.points) × (length work.now ≡ work_length parts.points parts.triangles) }
+    ensures { result ≡ words_in parts.points parts.triangles work.now n }
 {
-    joined(work[3 * v + n], work[5 * v + 3 * t + n])
+    joined(work[parts.marks_at() + n], work[parts.column_at() + n])
 }
 
 // A number into shell n's two words.
-fn put_words(work: &mut [u32], v: usize, t: usize, n: usize, x: u64)
-    requires { (n < v) × (length work.old ≡ work_length v t) }
-    ensures { work.new ≡ with_words v t n x work.old }
+fn put_words(work: &mut [u32], parts: Parts, n: usize, x: u64)
+    requires { (n < parts.points) × (length work.old ≡ work_length parts.points parts.triangles) }
+    ensures { work.new ≡ with_words parts.points parts.triangles n x work.old }
 {
-    work[3 * v + n] = high(x);
-    work[5 * v + 3 * t + n] = low(x);
+    work[parts.marks_at() + n] = high(x);
+    work[parts.column_at() + n] = low(x);
 }
 
 // A stored volume with one triangle more, whose corners stand from `at` on.
@@ -65,45 +65,45 @@ fn with_triangle(work: &[u32], at: usize, stored: u64) -> u64
 }
 
 // Triangle k into its shell's volume.
-fn add_triangle(work: &mut [u32], v: usize, t: usize, k: usize)
-    requires { VolumeTurn v t work.old k }
+fn add_triangle(work: &mut [u32], parts: Parts, k: usize)
+    requires { VolumeTurn parts.points parts.triangles work.old k }
     ensures { let room = work.old in
-        let n = triangle_number v t room k in
-        work.new ≡ with_words v t n (changed (points_in v room) (triangle_at (triangles_in v t room) k) (words_in v t room n)) room }
+        let n = triangle_number parts.points parts.triangles room k in
+        work.new ≡ with_words parts.points parts.triangles n (changed (points_in parts.points room) (triangle_at (triangles_in parts.points parts.triangles room) k) (words_in parts.points parts.triangles room n)) room }
 {
-    let at = 4 * v + 3 * k;
+    let at = parts.triangles_at() + 3 * k;
     let first = work[at] as usize;
-    let n = work[4 * v + 3 * t + first] as usize;
-    let stored = with_triangle(work, at, words_at(work, v, t, n));
-    put_words(work, v, t, n, stored);
+    let n = work[parts.numbers_at() + first] as usize;
+    let stored = with_triangle(work, at, words_at(work, parts, n));
+    put_words(work, parts, n, stored);
 }
 
 // The words of no volume for every shell.
-fn start(work: &mut [u32], v: usize, t: usize, shells: usize)
-    requires { (shells ≤ v) × (length work.old ≡ work_length v t) }
-    ensures { work.new ≡ all_words v t shells (λ n. most_volume) work.old }
+fn start(work: &mut [u32], parts: Parts, shells: usize)
+    requires { (shells ≤ parts.points) × (length work.old ≡ work_length parts.points parts.triangles) }
+    ensures { work.new ≡ all_words parts.points parts.triangles shells (λ n. most_volume) work.old }
 {
-    fill(work, 3 * v, shells, high(MOST_VOLUME));
-    fill(work, 5 * v + 3 * t, shells, low(MOST_VOLUME));
+    fill(work, parts.marks_at(), shells, high(MOST_VOLUME));
+    fill(work, parts.column_at(), shells, low(MOST_VOLUME));
 }
 
 // The volume of every shell, from the mesh and the shell numbers that stand in the room: the high words over the part of the marks, the low words into the column.
-pub fn gather_volumes(work: &mut [u32], v: usize, t: usize, shells: usize)
-    requires { ShellsStand shells v t work.old }
+pub fn gather_volumes(work: &mut [u32], parts: Parts, shells: usize)
+    requires { ShellsStand shells parts.points parts.triangles work.old }
     ensures { let room = work.old in
-        work.new ≡ all_words v t shells (λ n. stored_volume (volume_in v t room n)) room }
+        work.new ≡ all_words parts.points parts.triangles shells (λ n. stored_volume (volume_in parts.points parts.triangles room n)) room }
 {
-    start(work, v, t, shells);
-    for k in 0..t {
-        add_triangle(work, v, t, k);
+    start(work, parts, shells);
+    for k in 0..parts.triangles {
+        add_triangle(work, parts, k);
     }
 }
 
 // The volume that shell n's two words hold.
-pub fn volume_at(work: &[u32], v: usize, t: usize, n: usize) -> i64
-    requires n_lt_v { (n < v) × (length work.now ≡ work_length v t) }
-    requires n_bound { words_in v t work.now n ≤ 2 * most_volume }
-    ensures { result ≡ volume_read v t work.now n }
+pub fn volume_at(work: &[u32], parts: Parts, n: usize) -> i64
+    requires n_lt_v { (n < parts.points) × (length work.now ≡ work_length parts.points parts.triangles) }
+    requires n_bound { words_in parts.points parts.triangles work.now n ≤ 2 * most_volume }
+    ensures { result ≡ volume_read parts.points parts.triangles work.now n }
 {
-    laws::signed::excess(words_at(work, v, t, n), MOST_VOLUME)
+    laws::signed::excess(words_at(work, parts, n), MOST_VOLUME)
 }

@@ -25,9 +25,9 @@ of_points Triangles ne = absurd (ne refl)
 pub returns-in-Triangles : goal.returns-in-Triangles
 returns-in-Triangles c =
     let a = c.args in
-    rw c.in-Triangles.is (triangles_fields a.shells a.v a.t a.work.now c.requires 9 (omega arith) c.gather_triangles.ensures)
+    rw c.in-Triangles.is (triangles_fields a.shells a.parts.points a.parts.triangles a.work.now c.requires 9 (omega arith) c.gather_triangles.ensures)
 
 pub returns-in_default : goal.returns-in_default
 returns-in_default c =
     let a = c.args in
-    points_fields a.shells a.v a.t a.work.now c.requires (kind_of a.field) (of_points a.field c.in_default.not-Triangles) c.gather_points.ensures
+    points_fields a.shells a.parts.points a.parts.triangles a.work.now c.requires (kind_of a.field) (of_points a.field c.in_default.not-Triangles) c.gather_points.ensures

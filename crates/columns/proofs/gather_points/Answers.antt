@@ -8,22 +8,22 @@ use Rattle.columns.proofs.gather_points.Goals as goal
 
 pub fill-requires : goal.fill-requires
 fill-requires c =
-    shells_inside c.args.shells c.args.v c.args.t c.args.work.now c.requires
+    rw c.column_at.ensures (shells_inside c.args.shells c.args.parts.points c.args.parts.triangles c.args.work.now c.requires)
 
 pub loop-i-init : goal.loop-i-init
 loop-i-init c =
     let a = c.args in
     let x = c.start.result in
     record {
-      stands = begun a.shells a.v a.t a.work.now c.requires c.fill.new.work x c.fill.ensures;
+      stands = begun a.shells a.parts.points a.parts.triangles a.work.now c.requires c.fill.new.work x (rw c.column_at.ensures at c.fill.ensures);
       is_way = c.way-way.ensures;
-      put = points_begun a.shells a.v a.t a.work.now c.requires c.fill.new.work x c.fill.ensures (kind_of a.field) (c.start.ensures ∙ ap start_by c.way-way.ensures);
+      put = points_begun a.shells a.parts.points a.parts.triangles a.work.now c.requires c.fill.new.work x (rw c.column_at.ensures at c.fill.ensures) (kind_of a.field) (c.start.ensures ∙ ap start_by c.way-way.ensures);
     }
 
 pub add_point-requires : goal.add_point-requires
 add_point-requires c =
     let a = c.args in
-    rw (c.loop-i.invariant.is_way, c.loop-i.invariant.put) (point_turn a.shells a.v a.t c.fill.new.work c.loop-i.invariant.stands (kind_of a.field) c.loop-i.i c.loop-i-test.true)
+    rw (c.loop-i.invariant.is_way, c.loop-i.invariant.put) (point_turn a.shells a.parts.points a.parts.triangles c.fill.new.work c.loop-i.invariant.stands (kind_of a.field) c.loop-i.i c.loop-i-test.true)
 
 pub loop-i-preserved : goal.loop-i-preserved
 loop-i-preserved c =
@@ -32,14 +32,14 @@ loop-i-preserved c =
       stands = c.loop-i.invariant.stands;
       is_way = c.loop-i.invariant.is_way;
       put =
-          point_put a.shells a.v a.t c.fill.new.work c.loop-i.invariant.stands (kind_of a.field) c.loop-i.i c.loop-i-test.true
+          point_put a.shells a.parts.points a.parts.triangles c.fill.new.work c.loop-i.invariant.stands (kind_of a.field) c.loop-i.i c.loop-i-test.true
           c.loop-i.invariant.is_way c.loop-i.invariant.put c.add_point.ensures;
     }
 
 pub returns : goal.returns
 returns c =
     let a = c.args in
-    let end : c.loop-i.i ≡ a.v = omega arith in
+    let end : c.loop-i.i ≡ a.parts.points = omega arith in
     c.loop-i.invariant.put
-    ∙ ap (points_after a.shells a.v a.t c.fill.new.work (kind_of a.field)) end
-    ∙ points_ended a.shells a.v a.t a.work.now c.requires c.fill.new.work c.start.result c.fill.ensures (kind_of a.field) a.v
+    ∙ ap (points_after a.shells a.parts.points a.parts.triangles c.fill.new.work (kind_of a.field)) end
+    ∙ points_ended a.shells a.parts.points a.parts.triangles a.work.now c.requires c.fill.new.work c.start.result (rw c.column_at.ensures at c.fill.ensures) (kind_of a.field) a.parts.points

@@ -14,4 +14,4 @@ pub record PointsPut (shells v t kind : ℕ) (way : Way) (filled now : List ℕ)
   pub put : now ≡ points_after shells v t filled kind i
 
 abbrev pub invariant-loop-i : goal.invariant-loop-i
-invariant-loop-i l = PointsPut l.shells l.v l.t (kind_of l.field) l.way l.initial.work l.work l.i
+invariant-loop-i l = PointsPut l.shells l.parts.points l.parts.triangles (kind_of l.field) l.way l.initial.work l.work l.i

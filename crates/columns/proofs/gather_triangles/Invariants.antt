@@ -11,4 +11,4 @@ pub record TrianglesPut (shells v t : ℕ) (filled now : List ℕ) (k : ℕ) : T
   pub put : now ≡ triangles_after shells v t filled k
 
 abbrev pub invariant-loop-k : goal.invariant-loop-k
-invariant-loop-k l = TrianglesPut l.shells l.v l.t l.initial.work l.work l.k
+invariant-loop-k l = TrianglesPut l.shells l.parts.points l.parts.triangles l.initial.work l.work l.k

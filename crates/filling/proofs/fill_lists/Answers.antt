@@ -20,6 +20,6 @@ returns c =
       marks_are = c.fill_points.ensures.marks;
       triangles_are =
           front_back a.work.now a.triangles.now c.copy_from_slice-2.new.self (triangles_at v) (3 * t) q.triangles_hold (omega (arith, q.whole))
-          (rw (length-take-le (3 * t) a.triangles.now q.triangles_hold) (rw long at c.copy_from_slice-2.ensures.after));
+          (rw (length-take-le (3 * t) a.triangles.now q.triangles_hold) (rw (c.numbers_at.ensures, c.triangles_at.ensures, long) at c.copy_from_slice-2.ensures.after));
       zeroed = c.fill.ensures.after (λ y e. e);
     }

@@ -10,13 +10,13 @@ pub judge_mesh-requires : goal.judge_mesh-requires
 judge_mesh-requires c =
     let a = c.args in
     let q = c.requires in
-    standing a.v a.t a.shells a.input.now a.from a.work.now q.0 q.1 q.2 q.3 c.in-Ok.next c.take_lines.new.work c.take_lines.auto.work c.in-Ok.ensures
+    standing a.parts.points a.parts.triangles a.shells a.input.now a.from a.work.now q.0 q.1 q.2 q.3 c.in-Ok.next c.take_lines.new.work c.take_lines.auto.work c.in-Ok.ensures
 
 pub returns-in-Ok : goal.returns-in-Ok
 returns-in-Ok c =
     let a = c.args in
     let q = c.requires in
-    lines_go_on a.v a.t a.shells a.input.now a.from a.work.now q.0 q.1 q.2 q.3 c.in-Ok.next c.take_lines.new.work c.take_lines.auto.work c.in-Ok.ensures c.judge_mesh.result c.judge_mesh.new.work c.judge_mesh.ensures
+    lines_go_on a.parts.points a.parts.triangles a.shells a.input.now a.from a.work.now q.0 q.1 q.2 q.3 c.in-Ok.next c.take_lines.new.work c.take_lines.auto.work c.in-Ok.ensures c.judge_mesh.result c.judge_mesh.new.work c.judge_mesh.ensures
 
 pub returns-in-Err : goal.returns-in-Err
 returns-in-Err c =

@@ -3,4 +3,4 @@ use Rattle.meshform.proofs.Lines.{PointsRead}
 use Rattle.meshform.proofs.take_points.Given as goal
 
 abbrev pub invariant-loop-i : goal.invariant-loop-i
-invariant-loop-i l = PointsRead l.input l.from l.v l.initial.work l.work l.i l.at l.bound
+invariant-loop-i l = PointsRead l.input l.from l.parts.points l.initial.work l.work l.i l.at l.bound

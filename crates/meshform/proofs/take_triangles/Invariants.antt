@@ -4,4 +4,4 @@ use Rattle.meshform.proofs.Lines.{TrianglesRead}
 use Rattle.meshform.proofs.take_triangles.Given as goal
 
 abbrev pub invariant-loop-k : goal.invariant-loop-k
-invariant-loop-k l = TrianglesRead l.input l.from l.t (2 + l.v) l.base l.initial.work l.work l.k l.at
+invariant-loop-k l = TrianglesRead l.input l.from l.parts.triangles (2 + l.parts.points) l.base l.initial.work l.work l.k l.at

@@ -12,11 +12,11 @@ use Rattle.sameshells.proofs.same_columns.Goals as goal
 
 pub gather-requires : goal.gather-requires
 gather-requires c =
-    stands_left c.args.shells c.args.v c.args.t c.args.work.now c.requires.1 c.loop-field.work c.loop-field.invariant.0
+    stands_left c.args.shells c.args.parts.points c.args.parts.triangles c.args.work.now c.requires.1 c.loop-field.work c.loop-field.invariant.0
 
 pub same_column-requires : goal.same_column-requires
 same_column-requires c =
-    (c.requires.0, column_inside c.args.shells c.args.v c.args.t c.args.work.now c.requires.1 c.loop-field.work c.loop-field.invariant.0 (kind_of (field_at c.loop-field.field-index)) c.gather.new.work c.gather.ensures)
+    (c.requires.0, rw c.column_at-column.ensures (column_inside c.args.shells c.args.parts.points c.args.parts.triangles c.args.work.now c.requires.1 c.loop-field.work c.loop-field.invariant.0 (kind_of (field_at c.loop-field.field-index)) c.gather.new.work c.gather.ensures))
 
 pub returns-then-not-same_column : goal.returns-then-not-same_column
 returns-then-not-same_column c =
@@ -27,9 +27,9 @@ returns-then-not-same_column c =
     let no = c.if-not-same_column.true in record {
       same = record {
         yes = λ e. absurd (false≢true e);
-        so = λ same. absurd (true≢false (sym (field_not a.shells a.v a.t a.work.now c.requires.1 c.loop-field.work c.loop-field.invariant.0 kind c.gather.new.work c.gather.ensures (shells_at a.input.now a.from a.shells) c.same_column.result c.same_column.ensures no (same kind few)) ∙ no));
+        so = λ same. absurd (true≢false (sym (field_not a.shells a.parts.points a.parts.triangles a.work.now c.requires.1 c.loop-field.work c.loop-field.invariant.0 kind c.gather.new.work c.gather.ensures (shells_at a.input.now a.from a.shells) c.same_column.result (rw c.column_at-column.ensures at c.same_column.ensures) no (same kind few)) ∙ no));
       };
-      left = column_next a.shells a.v a.t a.work.now c.requires.1 c.loop-field.work c.loop-field.invariant.0 kind c.gather.new.work c.gather.ensures;
+      left = column_next a.shells a.parts.points a.parts.triangles a.work.now c.requires.1 c.loop-field.work c.loop-field.invariant.0 kind c.gather.new.work c.gather.ensures;
     }
 
 pub loop-field-preserved : goal.loop-field-preserved
@@ -37,8 +37,8 @@ loop-field-preserved c =
     let a = c.args in
     let k = c.loop-field.field-index in
     let kind = kind_of (field_at k) in
-    let P : ℕ → Type 0 = λ n. SameField (shells_at a.input.now a.from a.shells) a.shells n (record_in a.v a.t a.work.now) in (
-      column_next a.shells a.v a.t a.work.now c.requires.1 c.loop-field.work c.loop-field.invariant.0 kind c.gather.new.work c.gather.ensures,
+    let P : ℕ → Type 0 = λ n. SameField (shells_at a.input.now a.from a.shells) a.shells n (record_in a.parts.points a.parts.triangles a.work.now) in (
+      column_next a.shells a.parts.points a.parts.triangles a.work.now c.requires.1 c.loop-field.work c.loop-field.invariant.0 kind c.gather.new.work c.gather.ensures,
       below_next k P c.loop-field.invariant.1
-          (subst P (number_at k (omega arith)) (field_same a.shells a.v a.t a.work.now c.requires.1 c.loop-field.work c.loop-field.invariant.0 kind c.gather.new.work c.gather.ensures (shells_at a.input.now a.from a.shells) c.same_column.result c.same_column.ensures (c.if-not-same_column.false))),
+          (subst P (number_at k (omega arith)) (field_same a.shells a.parts.points a.parts.triangles a.work.now c.requires.1 c.loop-field.work c.loop-field.invariant.0 kind c.gather.new.work c.gather.ensures (shells_at a.input.now a.from a.shells) c.same_column.result (rw c.column_at-column.ensures at c.same_column.ensures) (c.if-not-same_column.false))),
     )

@@ -6,4 +6,4 @@ use Rattle.sameshells.proofs.same_columns.Given as goal
 
 abbrev pub invariant-loop-field : goal.invariant-loop-field
 invariant-loop-field l =
-    ColumnLeft l.v l.t l.shells l.initial.work l.work × ((k : ℕ) → k < l.field-index → SameField (shells_at l.input l.from l.shells) l.shells k (record_in l.v l.t l.initial.work))
+    ColumnLeft l.parts.points l.parts.triangles l.shells l.initial.work l.work × ((k : ℕ) → k < l.field-index → SameField (shells_at l.input l.from l.shells) l.shells k (record_in l.parts.points l.parts.triangles l.initial.work))

@@ -39,9 +39,9 @@ loop-n-preserved c =
     let same = again_shell a.input.now a.from a.shells c.loop-n.n c.loop-n.at c.loop-n.invariant.0 (omega arith) x.0 x.1 line in
     let fits = read_fits x.0 _ _ line in
     let w = c.volume_at in
-    let small = read_small a.v a.t a.work.now c.loop-n.n (c.requires.1.small c.loop-n.n (omega arith)) in
+    let small = read_small a.parts.points a.parts.triangles a.work.now c.loop-n.n (c.requires.1.small c.loop-n.n (omega arith)) in
     let e = words_same x.0.volume w.result (omega (arith, fits.volume)) (subst (λ z. nat_abs z < 2 ^ 63) (sym w.ensures) small) c.if-shell-volume_at.false in (
       again_next a.input.now a.from a.shells c.loop-n.n c.loop-n.at c.loop-n.invariant.0 (omega arith) x.0 x.1 line,
-      below_next c.loop-n.n (λ n. (get_or (shells_at a.input.now a.from a.shells) n none).volume ≡ volume_read a.v a.t a.work.now n) c.loop-n.invariant.1
+      below_next c.loop-n.n (λ n. (get_or (shells_at a.input.now a.from a.shells) n none).volume ≡ volume_read a.parts.points a.parts.triangles a.work.now n) c.loop-n.invariant.1
           (ap (λ z. z.volume) same ∙ e ∙ w.ensures),
     )

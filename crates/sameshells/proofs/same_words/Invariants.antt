@@ -5,4 +5,4 @@ use Rattle.sameshells.proofs.Compared.{Again}
 use Rattle.sameshells.proofs.same_words.Given as goal
 
 abbrev pub invariant-loop-n : goal.invariant-loop-n
-invariant-loop-n l = Again l.input l.from l.shells l.n l.at × SameVolumes (shells_at l.input l.from l.shells) l.n (volume_read l.v l.t l.work)
+invariant-loop-n l = Again l.input l.from l.shells l.n l.at × SameVolumes (shells_at l.input l.from l.shells) l.n (volume_read l.parts.points l.parts.triangles l.work)

@@ -7,20 +7,20 @@ use Rattle.volumes.proofs.gather_volumes.Goals as goal
 
 pub start-requires : goal.start-requires
 start-requires c =
-    (few_shells c.args.shells c.args.v c.args.t c.args.work.now c.requires, c.requires.whole)
+    (few_shells c.args.shells c.args.parts.points c.args.parts.triangles c.args.work.now c.requires, c.requires.whole)
 
 pub loop-k-init : goal.loop-k-init
 loop-k-init c =
     let a = c.args in
     record {
-      stands = begun a.shells a.v a.t a.work.now c.requires c.start.new.work c.start.ensures;
-      put = volumes_begun a.shells a.v a.t a.work.now c.requires c.start.new.work c.start.ensures;
+      stands = begun a.shells a.parts.points a.parts.triangles a.work.now c.requires c.start.new.work c.start.ensures;
+      put = volumes_begun a.shells a.parts.points a.parts.triangles a.work.now c.requires c.start.new.work c.start.ensures;
     }
 
 pub add_triangle-requires : goal.add_triangle-requires
 add_triangle-requires c =
     let a = c.args in
-    rw c.loop-k.invariant.put (volume_turn a.shells a.v a.t c.start.new.work c.loop-k.invariant.stands c.loop-k.k c.loop-k-test.true)
+    rw c.loop-k.invariant.put (volume_turn a.shells a.parts.points a.parts.triangles c.start.new.work c.loop-k.invariant.stands c.loop-k.k c.loop-k-test.true)
 
 pub loop-k-preserved : goal.loop-k-preserved
 loop-k-preserved c =
@@ -28,15 +28,15 @@ loop-k-preserved c =
     record {
       stands = c.loop-k.invariant.stands;
       put =
-          volume_put a.shells a.v a.t c.start.new.work c.loop-k.invariant.stands c.loop-k.k c.loop-k-test.true
+          volume_put a.shells a.parts.points a.parts.triangles c.start.new.work c.loop-k.invariant.stands c.loop-k.k c.loop-k-test.true
           c.loop-k.invariant.put c.add_triangle.ensures;
     }
 
 pub returns : goal.returns
 returns c =
     let a = c.args in
-    let end : c.loop-k.k ≡ a.t = omega arith in
+    let end : c.loop-k.k ≡ a.parts.triangles = omega arith in
     c.loop-k.invariant.put
-    ∙ ap (volumes_after a.shells a.v a.t c.start.new.work) end
-    ∙ volumes_ended a.shells a.v a.t a.work.now c.requires c.start.new.work c.start.ensures a.t
-    ∙ volumes_all a.shells a.v a.t a.work.now c.requires
+    ∙ ap (volumes_after a.shells a.parts.points a.parts.triangles c.start.new.work) end
+    ∙ volumes_ended a.shells a.parts.points a.parts.triangles a.work.now c.requires c.start.new.work c.start.ensures a.parts.triangles
+    ∙ volumes_all a.shells a.parts.points a.parts.triangles a.work.now c.requires
