@@ -153,7 +153,15 @@ pub fn judge(
         triangles: counts.triangles as usize,
     };
     let shells = counts.shells as usize;
-    let length = work.len();
-    check_rooms(parts, shells, points, edges, marks, triangles, records, length)?;
+    check_rooms(
+        parts,
+        shells,
+        points,
+        edges,
+        marks,
+        triangles,
+        records,
+        work.len(),
+    )?;
     judge_lines(input, parts, shells, next, work)
 }

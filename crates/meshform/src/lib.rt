@@ -61,12 +61,7 @@ fn take_points(input: &[u8], from: usize, parts: Parts, work: &mut [u32]) -> Res
 }
 
 // Takes the lines of all triangles, behind those of the points.
-fn take_triangles(
-    input: &[u8],
-    from: usize,
-    parts: Parts,
-    work: &mut [u32],
-) -> Result<usize, u64>
+fn take_triangles(input: &[u8], from: usize, parts: Parts, work: &mut [u32]) -> Result<usize, u64>
     requires { (parts.points ≤ most_points) × (parts.triangles ≤ most_triangles) × (4 * parts.points + 3 * parts.triangles ≤ length work.old) }
     ensures { Passes (triangle_lines parts.triangles (2 + parts.points) (drop from input.now)) input.now result (λ ts. work.new ≡ with_triangles parts.points ts work.old) }
 {
@@ -113,6 +108,7 @@ pub fn take_lines(
 {
     let triangles_at = take_points(input, from, parts, work)?;
     let shells_at = take_triangles(input, triangles_at, parts, work)?;
-    pass_shells(input, shells_at, (2 + parts.points + parts.triangles) as u64, shells)?;
+    let first = 2 + parts.points + parts.triangles;
+    pass_shells(input, shells_at, first as u64, shells)?;
     Ok(shells_at)
 }

@@ -36,13 +36,7 @@ fn same_column(
 }
 
 // Are all fields of every shell but the volume those of its record?
-fn same_columns(
-    input: &[u8],
-    from: usize,
-    shells: usize,
-    work: &mut [u32],
-    parts: Parts,
-) -> bool
+fn same_columns(input: &[u8], from: usize, shells: usize, work: &mut [u32], parts: Parts) -> bool
     requires { LinesThere input.now from shells × StandsIn shells parts.points parts.triangles work.old }
     ensures same { Decides result (SameFields (shells_at input.now from shells) shells (record_in parts.points parts.triangles work.old)) }
     ensures left { ColumnLeft parts.points parts.triangles shells work.old work.new }
@@ -74,13 +68,7 @@ fn same_words(input: &[u8], from: usize, shells: usize, work: &[u32], parts: Par
 }
 
 // Are the lines of the shells, from a place of the text on, those of the mesh in the room? Points and triangles stand in the room as before.
-pub fn same_shells(
-    input: &[u8],
-    from: usize,
-    shells: usize,
-    work: &mut [u32],
-    parts: Parts,
-) -> bool
+pub fn same_shells(input: &[u8], from: usize, shells: usize, work: &mut [u32], parts: Parts) -> bool
     requires { LinesThere input.now from shells × StandsIn shells parts.points parts.triangles work.old }
     ensures same { Decides result (shells_at input.now from shells ≡ list_to shells (record_in parts.points parts.triangles work.old)) }
     ensures left { MeshLeft parts.points parts.triangles work.old work.new }
