@@ -10,30 +10,25 @@ mod answers;
 pub use answers::{Answer, Plain, told};
 use grid::refusal::Refusal;
 use measures::vectors;
+use mesh::Mesh;
 
 // The corner areas and mean curvature vectors of a mesh, into the two lent rooms.
 #[tactic(auto, unfolding(crate::specs::Curved::curved), using(std::proofs::lemmas::Bool::Decides::nat_tests))]
-pub fn curvature(
-    points: &[u32],
-    triangles: &[u32],
-    marks: &[u8],
-    areas: &mut [f64],
-    vectors: &mut [f64],
-) -> Result<(), Refusal>
+pub fn curvature(mesh: Mesh, areas: &mut [f64], vectors: &mut [f64]) -> Result<(), Refusal>
     ensures { let after = left (told_number result) areas.new vectors.new in
-        Curves points.now triangles.now marks.now areas.old vectors.old after }
+        Curves mesh.entry.points.now mesh.entry.triangles.now mesh.entry.marks.now areas.old vectors.old after }
 {
-    mesh::check(points, triangles, marks)?;
-    if areas.len() != marks.len() {
+    mesh.check()?;
+    if areas.len() != mesh.marks.len() {
         return Err(Refusal::Room);
     }
-    if vectors.len() != 3 * marks.len() {
+    if vectors.len() != 3 * mesh.marks.len() {
         return Err(Refusal::Room);
     }
     sums::clear(areas);
     sums::clear(vectors);
-    sums::add_triangles(points, triangles, areas, vectors);
-    answers::finish(marks, areas, vectors);
+    sums::add_triangles(mesh.points, mesh.triangles, areas, vectors);
+    answers::finish(mesh.marks, areas, vectors);
     Ok(())
 }
 

@@ -12,6 +12,14 @@ ghost use Rattle.mesh.specs.Promise.{Checked};
 use grid::limits::{MOST_COORDINATE, MOST_POINTS, MOST_TRIANGLES};
 use grid::refusal::Refusal;
 
+// A mesh that a caller lends: points, three coordinates each; triangles, three point numbers each; and a mark for each point.
+#[derive(Clone, Copy)]
+pub struct Mesh<'a> {
+    pub points: &'a [u32],
+    pub triangles: &'a [u32],
+    pub marks: &'a [u8],
+}
+
 // Where a point stands.
 #[derive(Clone, Copy)]
 pub struct Place {
@@ -94,23 +102,25 @@ pub fn all_within(numbers: &[u32], most: u32) -> bool
     numbers.iter().all(|x| *x <= most)
 }
 
-// The first of the refusals 6, 7, 8, 9 that holds of a mesh.
-#[tactic(auto, unfolding(crate::specs::Check::mesh_number))]
-pub fn check(points: &[u32], triangles: &[u32], marks: &[u8]) -> Result<(), Refusal>
-    ensures { Checked points.now triangles.now marks.now (told result) }
-{
-    let v = marks.len();
-    if !lengths_fit(points.len(), triangles.len(), v) {
-        return Err(Refusal::Lengths);
+impl Mesh<'_> {
+    // The first of the refusals 6, 7, 8, 9 that holds of a mesh.
+    #[tactic(auto, unfolding(crate::specs::Check::mesh_number))]
+    pub fn check(self) -> Result<(), Refusal>
+        ensures { Checked self.entry.points.now self.entry.triangles.now self.entry.marks.now (told result) }
+    {
+        let v = self.marks.len();
+        if !lengths_fit(self.points.len(), self.triangles.len(), v) {
+            return Err(Refusal::Lengths);
+        }
+        if !triangles_fit(self.triangles, v) {
+            return Err(Refusal::Corners);
+        }
+        if !all_within(self.points, MOST_COORDINATE) {
+            return Err(Refusal::Coordinates);
+        }
+        if !self.marks.iter().all(|mark| *mark <= 1) {
+            return Err(Refusal::Marks);
+        }
+        Ok(())
     }
-    if !triangles_fit(triangles, v) {
-        return Err(Refusal::Corners);
-    }
-    if !all_within(points, MOST_COORDINATE) {
-        return Err(Refusal::Coordinates);
-    }
-    if !marks.iter().all(|mark| *mark <= 1) {
-        return Err(Refusal::Marks);
-    }
-    Ok(())
 }

@@ -7,20 +7,15 @@ ghost use Rattle.grid.specs.Refusal.{told, granted_or};
 ghost use Rattle.shellnumbers.specs.Lists.{left, refusal, Lists};
 
 use grid::refusal::Refusal;
+use mesh::Mesh;
 
 // The first of the refusals 6, 7, 8, 9 and 3 that holds.
 #[tactic(auto, unfolding(crate::specs::Lists::refusal, crate::specs::Lists::shell_rooms_fit), using(std::proofs::lemmas::Bool::Decides::nat_tests))]
-fn check(
-    points: &[u32],
-    triangles: &[u32],
-    marks: &[u8],
-    numbers: usize,
-    work: usize,
-) -> Result<(), Refusal>
-    ensures { told result ≡ refusal points.now triangles.now marks.now numbers work }
+fn check(mesh: Mesh, numbers: usize, work: usize) -> Result<(), Refusal>
+    ensures { told result ≡ refusal mesh.entry.points.now mesh.entry.triangles.now mesh.entry.marks.now numbers work }
 {
-    mesh::check(points, triangles, marks)?;
-    let v = marks.len();
+    mesh.check()?;
+    let v = mesh.marks.len();
     if numbers != v {
         return Err(Refusal::Room);
     }
@@ -33,19 +28,17 @@ fn check(
 // The shell number of each point and how many shells there are, where so many records are lent: all of the call but the
 // records. The work room is left zero, unless a check refuses the call.
 pub fn list_numbers(
-    points: &[u32],
-    triangles: &[u32],
-    marks: &[u8],
+    mesh: Mesh,
     numbers: &mut [u32],
     work: &mut [u32],
     records: usize,
 ) -> Result<usize, Refusal>
     ensures { let after = left (told result) (granted_or 0 result) numbers.new work.new in
-        Lists points.now triangles.now marks.now records numbers.old work.old after }
+        Lists mesh.entry.points.now mesh.entry.triangles.now mesh.entry.marks.now records numbers.old work.old after }
 {
-    check(points, triangles, marks, numbers.len(), work.len())?;
-    let v = marks.len();
-    sets::unite(work, triangles, v);
+    check(mesh, numbers.len(), work.len())?;
+    let v = mesh.marks.len();
+    sets::unite(work, mesh.triangles, v);
     let shells = sets::count(work, v);
     if records < shells {
         rooms::clear(work);

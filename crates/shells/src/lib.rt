@@ -14,6 +14,7 @@ ghost use Rattle.shelllist.specs.Promise.{Shells};
 ghost use Rattle.shelllist.specs.Filled.{PointTurn, PointsFit, TriangleTurn, TrianglesFit, changed, emptied, points_added, triangles_added, records_filled, FillFits};
 
 use grid::refusal::Refusal;
+use mesh::Mesh;
 use records::{Shell, blank, number_at, number_of, with_point, with_triangle};
 use shellnumbers::list_numbers;
 
@@ -68,35 +69,26 @@ fn add_triangles(records: &mut [Shell], numbers: &[u32], points: &[u32], triangl
 }
 
 // Makes the record of each shell, from the shell numbers of all points.
-fn fill(
-    records: &mut [Shell],
-    shells: usize,
-    numbers: &[u32],
-    points: &[u32],
-    triangles: &[u32],
-    marks: &[u8],
-)
-    requires { FillFits points.now triangles.now marks.now numbers.now shells records.old }
-    ensures { records.new ≡ records_filled points.now triangles.now marks.now numbers.now shells records.old }
+fn fill(records: &mut [Shell], shells: usize, numbers: &[u32], mesh: Mesh)
+    requires { FillFits mesh.points.now mesh.triangles.now mesh.marks.now numbers.now shells records.old }
+    ensures { records.new ≡ records_filled mesh.entry.points.now mesh.entry.triangles.now mesh.entry.marks.now numbers.now shells records.old }
 {
     empty(records, shells);
-    add_points(records, numbers, points, marks);
-    add_triangles(records, numbers, points, triangles);
+    add_points(records, numbers, mesh.points, mesh.marks);
+    add_triangles(records, numbers, mesh.points, mesh.triangles);
 }
 
 // The shell number of every point and one record a shell, into lent rooms; and how many shells there are.
 pub fn shells(
-    points: &[u32],
-    triangles: &[u32],
-    marks: &[u8],
+    mesh: Mesh,
     numbers: &mut [u32],
     records: &mut [Shell],
     work: &mut [u32],
 ) -> Result<usize, Refusal>
     ensures { let after = left (told result) (granted_or 0 result) numbers.new work.new in
-        Shells points.now triangles.now marks.now numbers.old work.old records.old after records.new }
+        Shells mesh.entry.points.now mesh.entry.triangles.now mesh.entry.marks.now numbers.old work.old records.old after records.new }
 {
-    let shells = list_numbers(points, triangles, marks, numbers, work, records.len())?;
-    fill(records, shells, numbers, points, triangles, marks);
+    let shells = list_numbers(mesh, numbers, work, records.len())?;
+    fill(records, shells, numbers, mesh);
     Ok(shells)
 }

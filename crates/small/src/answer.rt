@@ -7,6 +7,7 @@ ghost use Rattle.small.specs.Promise.{SmallGrid};
 
 use grid::limits::MOST_SMALL;
 use gridtext::Head;
+use mesh::Mesh;
 use printing::zeros::{MOST_SMALL_COORDINATES, MOST_SMALL_CORNERS, MOST_SMALL_POINTS};
 use printing::{write_smoothed, zeros};
 
@@ -36,15 +37,12 @@ fn write_grid(head: Head, samples: &[u16], output: &mut [u8]) -> usize
     let counts = done.unwrap();
     let v = counts.points as usize;
     let t = counts.triangles as usize;
-    write_smoothed(
-        &points[..3 * v],
-        &edges[..v],
-        &marks[..v],
-        &triangles[..3 * t],
-        head.rounds,
-        head.weight,
-        output,
-    )
+    let mesh = Mesh {
+        points: &points[..3 * v],
+        triangles: &triangles[..3 * t],
+        marks: &marks[..v],
+    };
+    write_smoothed(mesh, &edges[..v], head.rounds, head.weight, output)
 }
 
 // Answers an input: the text of a mesh, or a refusal's line. Answers the text's length.

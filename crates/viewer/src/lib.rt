@@ -15,6 +15,7 @@ ghost use Rattle.std.specs.Prelude.{[], ◌∷◌};
 use cube::CASE_LENGTH;
 use extract::Extracted;
 use grid::refusal::told;
+use mesh::Mesh;
 use records::Shell;
 
 // What a refusal counts.
@@ -87,7 +88,12 @@ pub extern "C" fn tholbrina_smooth(
     ensures { Smooths points.now triangles.now marks.now rounds weight
         smoothed.old work.old result smoothed.new work.new }
 {
-    told(smooth::smooth(points, triangles, marks, rounds, weight, smoothed, work))
+    let mesh = Mesh {
+        points,
+        triangles,
+        marks,
+    };
+    told(smooth::smooth(mesh, rounds, weight, smoothed, work))
 }
 
 // One point's coordinates out of the raw list, or out of the smoothed one if `second` is not 0. Answers 0 if granted, else the
@@ -129,7 +135,12 @@ pub extern "C" fn tholbrina_curvature(
     ensures { let after = curvesLeft result areas.new vectors.new in
         Curves points.now triangles.now marks.now areas.old vectors.old after }
 {
-    told(curvature::curvature(points, triangles, marks, areas, vectors))
+    let mesh = Mesh {
+        points,
+        triangles,
+        marks,
+    };
+    told(curvature::curvature(mesh, areas, vectors))
 }
 
 // One point's answer: its kind, 0 open, 1 flat, 2 bent, its area and its vector; what a kind does not have is +0.0. Answers 0 if granted, else the
@@ -179,7 +190,12 @@ pub extern "C" fn tholbrina_shells(
     ensures { let after = shellsLeft result shell_count.new numbers.new work.new in
         Shells points.now triangles.now marks.now numbers.old work.old records.old after records.new }
 {
-    let listed = shells::shells(points, triangles, marks, numbers, records, work);
+    let mesh = Mesh {
+        points,
+        triangles,
+        marks,
+    };
+    let listed = shells::shells(mesh, numbers, records, work);
     *shell_count = listed.unwrap_or(0) as u32;
     told(listed)
 }

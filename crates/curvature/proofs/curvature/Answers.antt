@@ -12,11 +12,11 @@ use Rattle.curvature.proofs.curvature.Goals as goal
 pub add_triangles-requires : goal.add_triangles-requires
 add_triangles-requires c =
     let a = c.args in
-    let ok = passed a.points.now a.triangles.now a.marks.now (sym c.in_ok-check.ensures) in
+    let ok = passed a.mesh.points.now a.mesh.triangles.now a.mesh.marks.now (sym c.in_ok-check.ensures) in
     let one = c.clear.auto.room in
     let two = c.clear-2.auto.room in
-    let areas-fit = c.if-areas-marks.false in
-    let vectors_fit = c.if-vectors-marks.false in
+    let areas-fit = c.if-areas-mesh.false in
+    let vectors_fit = c.if-vectors-mesh.false in
     let v = one ∙ areas-fit in record {
       rooms_fit = record {
         points_fit = omega (arith, ok.threes, v);
@@ -29,12 +29,12 @@ add_triangles-requires c =
 pub returns : goal.returns
 returns c =
     let a = c.args in
-    let points = c.args.points.now in
-    let triangles = c.args.triangles.now in
-    let marks = c.args.marks.now in
+    let points = c.args.mesh.points.now in
+    let triangles = c.args.mesh.triangles.now in
+    let marks = c.args.mesh.marks.now in
     let pass = sym c.in_ok-check.ensures in
-    let la = c.if-areas-marks.false in
-    let lv = c.if-vectors-marks.false in
+    let la = c.if-areas-mesh.false in
+    let lv = c.if-vectors-mesh.false in
     let one = c.clear in
     let two = c.clear-2 in
     let added = c.add_triangles in

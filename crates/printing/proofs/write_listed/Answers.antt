@@ -9,13 +9,13 @@ use Rattle.printing.proofs.write_listed.Goals as goal
 use Rattle.printing.proofs.write_listed.Goals.{After-room-work, After-room-numbers}
 
 -- a room for each point's number, and one for twice as many
-whole : (c : After-room-numbers) → length (take (length c.args.marks.now) c.room-numbers.result) ≡ length c.args.marks.now
+whole : (c : After-room-numbers) → length (take (length c.args.mesh.marks.now) c.room-numbers.result) ≡ length c.args.mesh.marks.now
 whole c =
-    length-take-le (length c.args.marks.now) c.room-numbers.result (omega (arith, c.room-numbers.ensures, c.requires.few_points))
+    length-take-le (length c.args.mesh.marks.now) c.room-numbers.result (omega (arith, c.room-numbers.ensures, c.requires.few_points))
 
-twice : (c : After-room-work) → length (take (2 * length c.args.marks.now) c.room-work.result) ≡ 2 * length c.args.marks.now
+twice : (c : After-room-work) → length (take (2 * length c.args.mesh.marks.now) c.room-work.result) ≡ 2 * length c.args.mesh.marks.now
 twice c =
-    length-take-le (2 * length c.args.marks.now) c.room-work.result (omega (arith, c.room-work.ensures, c.requires.few_points))
+    length-take-le (2 * length c.args.mesh.marks.now) c.room-work.result (omega (arith, c.room-work.ensures, c.requires.few_points))
 
 pub slice_bounds-write_records-end : goal.slice_bounds-write_records-end
 slice_bounds-write_records-end c = sym (whole (goal.at.slice_bounds-write_records-end c).After-room-numbers)

@@ -18,7 +18,7 @@ returns c =
       number = told l.result;
       shells = granted_or 0 l.result;
       records = l.new.records;
-      made = subst (λ (s : Shell). Shells a.points.now a.triangles.now a.marks.now a.numbers.now a.work.now (replicate most_small_points s) (left (told l.result) (granted_or 0 l.result) l.new.numbers l.new.work) l.new.records) c.blank-records.ensures l.ensures;
-      holds = subst (λ k. Holds (length a.marks.now) (length a.triangles.now / 3) k (length a.output.now) (told c.write_mesh.result)) c.unwrap_or-shells.ensures c.write_mesh.ensures.0;
+      made = subst (λ (s : Shell). Shells a.mesh.points.now a.mesh.triangles.now a.mesh.marks.now a.numbers.now a.work.now (replicate most_small_points s) (left (told l.result) (granted_or 0 l.result) l.new.numbers l.new.work) l.new.records) c.blank-records.ensures l.ensures;
+      holds = subst (λ k. Holds (length a.mesh.marks.now) (length a.mesh.triangles.now / 3) k (length a.output.now) (told c.write_mesh.result)) c.unwrap_or-shells.ensures c.write_mesh.ensures.0;
       written = c.write_mesh.ensures.1 ∙ rw c.unwrap_or-shells.ensures refl;
     }

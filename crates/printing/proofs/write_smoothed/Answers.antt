@@ -18,11 +18,11 @@ use Rattle.printing.proofs.write_smoothed.Goals.{After-room-smoothed, After-smoo
 
 pub slice_bounds-smooth-end : goal.slice_bounds-smooth-end
 slice_bounds-smooth-end c =
-    sym (length-take-le (3 * length c.args.marks.now) c.room-smoothed.result (omega (arith, c.room-smoothed.ensures, c.requires.small_mesh.few_points)))
+    sym (length-take-le (3 * length c.args.mesh.marks.now) c.room-smoothed.result (omega (arith, c.room-smoothed.ensures, c.requires.small_mesh.few_points)))
 
 pub slice_bounds-smooth-end-2 : goal.slice_bounds-smooth-end-2
 slice_bounds-smooth-end-2 c =
-    sym (length-take-le (6 * (length c.args.triangles.now / 3) + 5 * length c.args.marks.now + 1) c.room-work.result
+    sym (length-take-le (6 * (length c.args.mesh.triangles.now / 3) + 5 * length c.args.mesh.marks.now + 1) c.room-work.result
     (omega (arith, c.room-work.ensures, c.requires.small_mesh.few_points, c.requires.small_mesh.few_triangles)))
 
 -- the smoothed points are read again from the front of their room
@@ -31,49 +31,49 @@ module _ (c : After-smooth) where
   exit = c.smooth.new.smoothed
 
   abbrev moved : List ℕ
-  moved = rounds (triangles_of c.args.triangles.now) c.args.marks.now c.args.weight c.args.rounds c.args.points.now
+  moved = rounds (triangles_of c.args.mesh.triangles.now) c.args.mesh.marks.now c.args.weight c.args.rounds c.args.mesh.points.now
 
   -- a room for the second points, and the work room
-  second : length (take (3 * length c.args.marks.now) c.room-smoothed.result) ≡ 3 * length c.args.marks.now
-  second = length-take-le (3 * length c.args.marks.now) c.room-smoothed.result (omega (arith, c.room-smoothed.ensures, c.requires.small_mesh.few_points))
+  second : length (take (3 * length c.args.mesh.marks.now) c.room-smoothed.result) ≡ 3 * length c.args.mesh.marks.now
+  second = length-take-le (3 * length c.args.mesh.marks.now) c.room-smoothed.result (omega (arith, c.room-smoothed.ensures, c.requires.small_mesh.few_points))
 
-  working : let many = 6 * (length c.args.triangles.now / 3) + 5 * length c.args.marks.now + 1 in length (take many c.room-work.result) ≡ many
+  working : let many = 6 * (length c.args.mesh.triangles.now / 3) + 5 * length c.args.mesh.marks.now + 1 in length (take many c.room-work.result) ≡ many
   working =
-      length-take-le (6 * (length c.args.triangles.now / 3) + 5 * length c.args.marks.now + 1) c.room-work.result
+      length-take-le (6 * (length c.args.mesh.triangles.now / 3) + 5 * length c.args.mesh.marks.now + 1) c.room-work.result
       (omega (arith, c.room-work.ensures, c.requires.small_mesh.few_points, c.requires.small_mesh.few_triangles))
 
-  long : length exit ≡ 3 * length c.args.marks.now
+  long : length exit ≡ 3 * length c.args.mesh.marks.now
   long = c.smooth.auto.smoothed ∙ second
 
-  front : take (3 * length c.args.marks.now) (exit ++ drop (3 * length c.args.marks.now) c.room-smoothed.result) ≡ moved
+  front : take (3 * length c.args.mesh.marks.now) (exit ++ drop (3 * length c.args.mesh.marks.now) c.room-smoothed.result) ≡ moved
   front =
       let a = c.args in
-      take_at exit (drop (3 * length a.marks.now) c.room-smoothed.result) (3 * length a.marks.now) long
+      take_at exit (drop (3 * length a.mesh.marks.now) c.room-smoothed.result) (3 * length a.mesh.marks.now) long
       ∙ (ap (λ o. o.second) c.smooth.ensures
-      ∙ smooth_granted a.points.now a.triangles.now a.marks.now a.rounds a.weight _ _ c.requires.small_mesh.passes c.requires.rounds_le_most_rounds.0 c.requires.rounds_le_most_rounds.1 second working)
+      ∙ smooth_granted a.mesh.points.now a.mesh.triangles.now a.mesh.marks.now a.rounds a.weight _ _ c.requires.small_mesh.passes c.requires.rounds_le_most_rounds.0 c.requires.rounds_le_most_rounds.1 second working)
 
   granted : IsOk c.smooth.result
   granted =
       let a = c.args in
-      is_granted c.smooth.result (ap (λ o. o.number) c.smooth.ensures ∙ none_refused a.points.now a.triangles.now a.marks.now a.rounds a.weight _ _ c.requires.small_mesh.passes c.requires.rounds_le_most_rounds.0 c.requires.rounds_le_most_rounds.1 second working)
+      is_granted c.smooth.result (ap (λ o. o.number) c.smooth.ensures ∙ none_refused a.mesh.points.now a.mesh.triangles.now a.mesh.marks.now a.rounds a.weight _ _ c.requires.small_mesh.passes c.requires.rounds_le_most_rounds.0 c.requires.rounds_le_most_rounds.1 second working)
 
 pub unwrap-requires : goal.unwrap-requires
 unwrap-requires c = granted (goal.at.unwrap-requires c).After-smooth
 
 pub slice_bounds-smoothed-end-2 : goal.slice_bounds-smoothed-end-2
 slice_bounds-smoothed-end-2 c =
-    omega (arith, length-append (exit (goal.at.slice_bounds-smoothed-end-2 c).After-smooth) (drop (3 * length c.args.marks.now) c.room-smoothed.result), long (goal.at.slice_bounds-smoothed-end-2 c).After-smooth)
+    omega (arith, length-append (exit (goal.at.slice_bounds-smoothed-end-2 c).After-smooth) (drop (3 * length c.args.mesh.marks.now) c.room-smoothed.result), long (goal.at.slice_bounds-smoothed-end-2 c).After-smooth)
 
-pub slice_bounds-write_listed-end : goal.slice_bounds-write_listed-end
-slice_bounds-write_listed-end c =
-    sym (ap length (take_at (exit (goal.at.slice_bounds-write_listed-end c).After-smooth) (drop (3 * length c.args.marks.now) c.room-smoothed.result) (3 * length c.args.marks.now) (long (goal.at.slice_bounds-write_listed-end c).After-smooth)) ∙ long (goal.at.slice_bounds-write_listed-end c).After-smooth)
+pub slice_bounds-moved-end : goal.slice_bounds-moved-end
+slice_bounds-moved-end c =
+    sym (ap length (take_at (exit (goal.at.slice_bounds-moved-end c).After-smooth) (drop (3 * length c.args.mesh.marks.now) c.room-smoothed.result) (3 * length c.args.mesh.marks.now) (long (goal.at.slice_bounds-moved-end c).After-smooth)) ∙ long (goal.at.slice_bounds-moved-end c).After-smooth)
 
 pub write_listed-requires : goal.write_listed-requires
 write_listed-requires c =
     let a = c.args in
     let p = c.requires.small_mesh in
     record {
-      passes = rw (front (goal.at.write_listed-requires c).After-smooth) (smoothed_passes a.points.now a.triangles.now a.marks.now a.weight a.rounds c.requires.rounds_le_most_rounds.1 p.passes);
+      passes = rw (front (goal.at.write_listed-requires c).After-smooth) (smoothed_passes a.mesh.points.now a.mesh.triangles.now a.mesh.marks.now a.weight a.rounds c.requires.rounds_le_most_rounds.1 p.passes);
       edged = p.edged;
       few_points = p.few_points;
       few_triangles = p.few_triangles;
@@ -83,4 +83,4 @@ write_listed-requires c =
 pub returns : goal.returns
 unfolding after_rounds
 returns c =
-    let a = c.args in record { inside = c.write_listed.ensures.inside; text = subst (λ p. Prints (mesh_of p a.triangles.now a.marks.now) a.edges.now (take c.write_listed.result c.write_listed.new.output)) (front (goal.at.returns c).After-smooth) c.write_listed.ensures.text }
+    let a = c.args in record { inside = c.write_listed.ensures.inside; text = subst (λ p. Prints (mesh_of p a.mesh.triangles.now a.mesh.marks.now) a.edges.now (take c.write_listed.result c.write_listed.new.output)) (front (goal.at.returns c).After-smooth) c.write_listed.ensures.text }

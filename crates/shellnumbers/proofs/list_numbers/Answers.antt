@@ -7,8 +7,8 @@ use Rattle.shellnumbers.proofs.list_numbers.Goals as goal
 use Rattle.shellnumbers.proofs.list_numbers.Goals.{In_ok-check}
 
 -- the mesh passed, and the rooms fit it
-ok : (c : In_ok-check) → let g = c.args in Passed g.points.now g.triangles.now g.marks.now (length g.numbers.now) (length g.work.now)
-ok c = let g = c.args in passes g.points.now g.triangles.now g.marks.now g.numbers.now g.work.now g.records c.in_ok-check.ensures
+ok : (c : In_ok-check) → let g = c.args in Passed g.mesh.points.now g.mesh.triangles.now g.mesh.marks.now (length g.numbers.now) (length g.work.now)
+ok c = let g = c.args in passes g.mesh.points.now g.mesh.triangles.now g.mesh.marks.now g.numbers.now g.work.now g.records c.in_ok-check.ensures
 
 pub unite-requires : goal.unite-requires
 unite-requires c =
@@ -23,7 +23,7 @@ count-shells-requires c =
 pub returns-then-records-shells : goal.returns-then-records-shells
 returns-then-records-shells c =
     let g = c.args in
-    ends_crowded g.points.now g.triangles.now g.marks.now g.numbers.now g.work.now g.records c.in_ok-check.ensures
+    ends_crowded g.mesh.points.now g.mesh.triangles.now g.mesh.marks.now g.numbers.now g.work.now g.records c.in_ok-check.ensures
     c.unite.new.room _ c.unite.ensures c.count-shells.result c.count-shells.ensures c.clear.ensures c.if-records-shells.true
 
 pub number-requires : goal.number-requires
@@ -34,5 +34,5 @@ number-requires c =
 pub returns : goal.returns
 returns c =
     let g = c.args in
-    ends_granted g.points.now g.triangles.now g.marks.now g.numbers.now g.work.now g.records c.in_ok-check.ensures
+    ends_granted g.mesh.points.now g.mesh.triangles.now g.mesh.marks.now g.numbers.now g.work.now g.records c.in_ok-check.ensures
     c.unite.new.room _ c.unite.ensures c.count-shells.result c.count-shells.ensures c.clear-2.ensures _ c.number.ensures c.if-records-shells.false

@@ -9,6 +9,6 @@ use Rattle.smooth.proofs.granted.Given as goal
 
 abbrev pub invariant-loop : goal.invariant-loop
 invariant-loop l = record {
-  moved : l.smoothed ≡ roundsOf (triangles_of l.triangles) l.marks l.weight l.counter l.points;
-  listed : Listed l.triangles (length l.marks) (2 * length l.triangles) l.work;
+  moved : l.smoothed ≡ roundsOf (triangles_of l.mesh.triangles.now) l.mesh.marks.now l.weight l.counter l.mesh.points.now;
+  listed : Listed l.mesh.triangles.now (length l.mesh.marks.now) (2 * length l.mesh.triangles.now) l.work;
 }

@@ -6,4 +6,4 @@ use Rattle.smooth.proofs.smooth.Goals as goal
 
 pub overflow_mul-v : goal.overflow_mul-v
 overflow_mul-v c =
-    omega (arith, (passed c.args.points.now c.args.triangles.now c.args.marks.now (sym c.in_ok-check.ensures)).few)
+    omega (arith, (passed c.args.mesh.points.now c.args.mesh.triangles.now c.args.mesh.marks.now (sym c.in_ok-check.ensures)).few)

@@ -89,26 +89,26 @@ module _ (c : After-unwrap-counts) where
 pub slice_bounds-points-end : goal.slice_bounds-points-end
 slice_bounds-points-end c = places_hold (goal.at.slice_bounds-points-end c).After-unwrap-counts
 
-pub slice_bounds-write_smoothed-end : goal.slice_bounds-write_smoothed-end
-slice_bounds-write_smoothed-end c = sym (length-take-le _ _ (places_hold (goal.at.slice_bounds-write_smoothed-end c).After-unwrap-counts))
+pub slice_bounds-mesh-end : goal.slice_bounds-mesh-end
+slice_bounds-mesh-end c = sym (length-take-le _ _ (places_hold (goal.at.slice_bounds-mesh-end c).After-unwrap-counts))
 
 pub slice_bounds-edges-end : goal.slice_bounds-edges-end
 slice_bounds-edges-end c = edges_hold (goal.at.slice_bounds-edges-end c).After-unwrap-counts
 
-pub slice_bounds-write_smoothed-end-2 : goal.slice_bounds-write_smoothed-end-2
-slice_bounds-write_smoothed-end-2 c = sym (length-take-le _ _ (edges_hold (goal.at.slice_bounds-write_smoothed-end-2 c).After-unwrap-counts))
+pub slice_bounds-write_smoothed-end : goal.slice_bounds-write_smoothed-end
+slice_bounds-write_smoothed-end c = sym (length-take-le _ _ (edges_hold (goal.at.slice_bounds-write_smoothed-end c).After-unwrap-counts))
 
 pub slice_bounds-marks-end : goal.slice_bounds-marks-end
 slice_bounds-marks-end c = marks_hold (goal.at.slice_bounds-marks-end c).After-unwrap-counts
 
-pub slice_bounds-write_smoothed-end-3 : goal.slice_bounds-write_smoothed-end-3
-slice_bounds-write_smoothed-end-3 c = sym (length-take-le _ _ (marks_hold (goal.at.slice_bounds-write_smoothed-end-3 c).After-unwrap-counts))
+pub slice_bounds-mesh-end-3 : goal.slice_bounds-mesh-end-3
+slice_bounds-mesh-end-3 c = sym (length-take-le _ _ (marks_hold (goal.at.slice_bounds-mesh-end-3 c).After-unwrap-counts))
 
 pub slice_bounds-triangles-end : goal.slice_bounds-triangles-end
 slice_bounds-triangles-end c = triangles_hold (goal.at.slice_bounds-triangles-end c).After-unwrap-counts
 
-pub slice_bounds-write_smoothed-end-4 : goal.slice_bounds-write_smoothed-end-4
-slice_bounds-write_smoothed-end-4 c = sym (length-take-le _ _ (triangles_hold (goal.at.slice_bounds-write_smoothed-end-4 c).After-unwrap-counts))
+pub slice_bounds-mesh-end-2 : goal.slice_bounds-mesh-end-2
+slice_bounds-mesh-end-2 c = sym (length-take-le _ _ (triangles_hold (goal.at.slice_bounds-mesh-end-2 c).After-unwrap-counts))
 
 pub write_smoothed-requires : goal.write_smoothed-requires
 unfolding mesh_left edges_left
