@@ -29,8 +29,8 @@ next_here c =
     next_bit word_bits c.args.cubes l.invariant.0 l.busy l.invariant.2 l.invariant.3 c.loop-busy-test.true
 
 -- the case that was read, and its count
-read : (c : After-case-case) → CaseRead c.args.counts.now c.args.corners ((let it : ℕ = count_trailing_zeros word_bits c.loop-busy.busy in it)) c.case-case.result
-read c = case_read c.args.counts.now c.args.corners ((let it : ℕ = count_trailing_zeros word_bits c.loop-busy.busy in it)) _ c.requires c.case-case.ensures
+read : (c : After-case-case) → CaseRead c.args.counts.now c.args.corners (count_trailing_zeros word_bits c.loop-busy.busy) c.case-case.result
+read c = case_read c.args.counts.now c.args.corners (count_trailing_zeros word_bits c.loop-busy.busy) _ c.requires c.case-case.ensures
 
 pub overflow_add-sum : goal.overflow_add-sum
 overflow_add-sum c =

@@ -1,6 +1,6 @@
 -- `steps::look_at_all` meets its contract.
 use mathlib.Core.Path.{◌≡◌, refl, sym, ◌∙◌}
-use mathlib.Core.Bool.{Bool, true, false}
+use mathlib.Core.Bool.{Bool, true, false, not}
 use Prim.Native.Nat.{ℕ, ◌+◌, ◌-◌}
 use native.Mathlib.Omega.{arith}
 use borrow.Author.Tests.{not-true, not-false}
@@ -12,11 +12,6 @@ use Rattle.summary.proofs.Looked.{looked_most}
 use Rattle.steps.specs.Looks.{BlockFits}
 use Rattle.steps.proofs.Looks.{looked_closed, found_closed, looked_open, found_open}
 use Rattle.steps.proofs.look_at_all.Goals as goal
-use Rattle.steps.proofs.look_at_all.Goals.{Else-not-step, Start}
-
--- the step at the whole block says of it what it says in the definition
-abbrev step_in : Start → ℕ → ℕ → ℕ → ℕ → Bool
-step_in s = step_at s.args.summary.now s.args.grey
 
 whole : BlockFits (record { halvings = halvings; start = 0; side = 1; x = 0; y = 0; z = 0 })
 unfolding level_start
@@ -27,21 +22,25 @@ step_at-step-requires c = record { block_fits = whole; summary_len = c.requires.
 
 pub returns-then-not-step : goal.returns-then-not-step
 returns-then-not-step c =
+    let says = step_at c.args.summary.now c.args.grey in
     let stepped = c.step_at-step in
-    let closed : step_in (goal.at.returns-then-not-step c).Start halvings 0 0 0 ≡ false = sym stepped.ensures.1 ∙ not-true stepped.result.found c.if-not-step.true in
-    let one : looked (step_in (goal.at.returns-then-not-step c).Start) halvings 0 0 0 ≡ 1 = looked_closed (step_in (goal.at.returns-then-not-step c).Start) 0 0 0 halvings (omega arith) closed in record { count = omega (arith, stepped.ensures.0, one); words = found_closed (step_in (goal.at.returns-then-not-step c).Start) 0 0 0 halvings (omega arith) closed c.args.found.now }
+    let closed : says halvings 0 0 0 ≡ false = sym stepped.ensures.1 ∙ not-true stepped.result.found c.if-not-step.true in
+    let one = looked_closed says 0 0 0 halvings (omega arith) closed in record { count = omega (arith, stepped.ensures.0, one); words = found_closed says 0 0 0 halvings (omega arith) closed c.args.found.now }
 
--- past the test it is opened
-opened : (c : Else-not-step) → (let it : ℕ → ℕ → ℕ → ℕ → Bool = step_at c.args.summary.now c.args.grey in it) halvings 0 0 0 ≡ true
-opened c = sym c.step_at-step.ensures.1 ∙ not-false c.step_at-step.result.found c.if-not-step.false
+-- past the test the block is opened, and its halves are looked at
+opened : (found says : Bool) → found ≡ says → not found ≡ false → says ≡ true
+opened found says e goes_on = sym e ∙ not-false found goes_on
 
-more : (c : Else-not-step)
-    → looked ((let it : ℕ → ℕ → ℕ → ℕ → Bool = step_at c.args.summary.now c.args.grey in it)) halvings 0 0 0 ≡ 1 + sum_to 8 (half (looked ((let it : ℕ → ℕ → ℕ → ℕ → Bool = step_at c.args.summary.now c.args.grey in it)) (halvings - 1)) 0 0 0)
-more c = looked_open ((let it : ℕ → ℕ → ℕ → ℕ → Bool = step_at c.args.summary.now c.args.grey in it)) 0 0 0 halvings (omega arith) (opened c)
+more : (says : ℕ → ℕ → ℕ → ℕ → Bool) → says halvings 0 0 0 ≡ true → looked says halvings 0 0 0 ≡ 1 + sum_to 8 (half (looked says (halvings - 1)) 0 0 0)
+more says = looked_open says 0 0 0 halvings (omega arith)
 
 pub look_at_halves-requires : goal.look_at_halves-requires
-look_at_halves-requires c = record { block_fits = (whole, omega arith); summary_len = c.requires.summary_len; found_len = c.requires.found_len; block_bound = omega (arith, c.step_at-step.ensures.0, more (goal.at.look_at_halves-requires c).Else-not-step, looked_most (step_in (goal.at.look_at_halves-requires c).Start) halvings 0 0 0) }
+look_at_halves-requires c =
+    let says = step_at c.args.summary.now c.args.grey in
+    let goes_on = opened c.step_at-step.result.found (says halvings 0 0 0) c.step_at-step.ensures.1 c.if-not-step.false in record { block_fits = (whole, omega arith); summary_len = c.requires.summary_len; found_len = c.requires.found_len; block_bound = omega (arith, c.step_at-step.ensures.0, more says goes_on, looked_most says halvings 0 0 0) }
 
 pub returns : goal.returns
 returns c =
-    let looks = c.look_at_halves in record { count = omega (arith, looks.ensures.count, c.step_at-step.ensures.0, more (goal.at.returns c).Else-not-step); words = found_open (step_in (goal.at.returns c).Start) 0 0 0 halvings (omega arith) (opened (goal.at.returns c).Else-not-step) c.args.found.now looks.new.found looks.ensures.words }
+    let says = step_at c.args.summary.now c.args.grey in
+    let goes_on = opened c.step_at-step.result.found (says halvings 0 0 0) c.step_at-step.ensures.1 c.if-not-step.false in
+    let looks = c.look_at_halves in record { count = omega (arith, looks.ensures.count, c.step_at-step.ensures.0, more says goes_on); words = found_open says 0 0 0 halvings (omega arith) goes_on c.args.found.now looks.new.found looks.ensures.words }

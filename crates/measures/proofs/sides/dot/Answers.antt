@@ -50,7 +50,7 @@ two_is : (c : After-sum) → c.sum.result ≡ c.args.u.x *ℤ c.args.v.x +ℤ c.
 two_is c =
     let one = c.product-x in
     let two = c.product-y in
-    learnt one.result two.result one.type_inv two.type_inv ◌+ℤ◌ c.sum.ensures ∙ ap₂ ◌+ℤ◌ ((let it : c.product-x.result ≡ c.args.u.x *ℤ c.args.v.x = product_learnt c.args.u.x c.args.v.x c.requires.0.x c.requires.1.x c.product-x.ensures in it)) ((let it : c.product-y.result ≡ c.args.u.y *ℤ c.args.v.y = product_learnt c.args.u.y c.args.v.y c.requires.0.y c.requires.1.y c.product-y.ensures in it))
+    learnt one.result two.result one.type_inv two.type_inv ◌+ℤ◌ c.sum.ensures ∙ ap₂ ◌+ℤ◌ (product_learnt c.args.u.x c.args.v.x c.requires.0.x c.requires.1.x c.product-x.ensures) (product_learnt c.args.u.y c.args.v.y c.requires.0.y c.requires.1.y c.product-y.ensures)
 
 pub sum-requires-2 : goal.sum-requires-2
 sum-requires-2 c =
