@@ -61,7 +61,7 @@ pub fn write_points(
     at
 }
 
-// The numbers of a triangle's line. Triangles have two loops of their own below: one over both kinds of line would take a closure and the list that it gives for each i, and its contract would be longer than the loop.
+// The numbers of a triangle's line. Triangles have two loops of their own below. One over both kinds of line was tried, with a closure that gives the numbers of line i, and the proof did not close: its bound `Fn(usize) -> [u32; N]` names a const parameter, which the borrow checker does not cover yet. Each of the four closures would also state its `requires` again, so that the text would be longer than the loops.
 fn triangle_numbers(triangles: &[u32], i: usize) -> [u32; 3]
     requires { 3 * i + 2 < length triangles.now }
     ensures { result ≡ triangle_numbers triangles.now i }
