@@ -9,11 +9,11 @@ use mir.Val.{bool_byte}
 use Rattle.grid.specs.Limits.{most_side}
 use Rattle.summary.specs.Blocks.{half}
 use Rattle.summary.specs.Steps.{step_at}
-use Rattle.steps.specs.Looks.{found_from, found_in, Marks}
+use Rattle.steps.specs.declared.Block.{Block}
+use Rattle.steps.specs.Looks.{BlockFits, found_from, found_in, Marks}
 use Rattle.steps.proofs.Blocks.{block_small}
 use Rattle.steps.proofs.Marks.{marks_more, marks_same, mark_cube, in_none, in_next}
 use Rattle.steps.proofs.look_at_cubes.Goals as goal
-use Rattle.steps.proofs.look_at_cubes.Goals.{After-half-cube}
 
 pub loop-which-init : goal.loop-which-init
 loop-which-init c = (omega arith, omega arith, c.requires.found_len, in_none _ 0 _ _ _ c.args.found.now)
@@ -24,10 +24,10 @@ record Inside (x y z : ℕ) : Type 0 where
   in_y : y < most_side
   in_z : z < most_side
 
-inside : (c : After-half-cube) → Inside c.half-cube.result.x c.half-cube.result.y c.half-cube.result.z
-inside c =
-    let side = (block_small c.half-cube.result c.half-cube.ensures.1).side in
-    record { in_x = omega (arith, c.half-cube.ensures.1.in_x, side); in_y = omega (arith, c.half-cube.ensures.1.in_y, side); in_z = omega (arith, c.half-cube.ensures.1.in_z, side) }
+inside : (cube : Block) → BlockFits cube → Inside cube.x cube.y cube.z
+inside cube fits =
+    let side = (block_small cube fits).side in
+    record { in_x = omega (arith, fits.in_x, side); in_y = omega (arith, fits.in_y, side); in_z = omega (arith, fits.in_z, side) }
 
 pub loop-which-preserved : goal.loop-which-preserved
 loop-which-preserved c =
@@ -36,7 +36,7 @@ loop-which-preserved c =
     let stepped = c.step_at-step.ensures in
     let cube = c.half-cube.result in
     let is = c.half-cube.ensures.0 in
-    let i = inside (goal.at.loop-which-preserved c).After-half-cube in
+    let i = inside cube c.half-cube.ensures.1 in
     let step = step_at a.summary.now a.grey in
     let left : cube.halvings ≡ 0 = omega (arith, ap (λ k. k.halvings) is, c.requires.block_fits.1) in
     let found = stepped.1 ∙ ap (λ j. step j cube.x cube.y cube.z) left in
