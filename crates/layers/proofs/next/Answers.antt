@@ -4,24 +4,20 @@ use lib.ListN.{length}
 use borrow.Author.Tests.{eq-eqb, ne_eqb}
 use Rattle.std.proofs.lemmas.Result.{err_from_is_err_and}
 use Rattle.layerstate.specs.State.{state_in}
-use Rattle.layers.specs.Outcome.{Rooms, layer_hands, layer_measured}
+use Rattle.layers.specs.Outcome.{layer_hands, layer_measured}
 use Rattle.layers.specs.Promise.{rooms}
 use Rattle.layers.proofs.Tested.{is_some, is_amiss, of_room, fit, grey_fits, few}
 use Rattle.layers.proofs.Ways.{layer_length, layer_none, layer_amiss_lem, layer_taken, first_layered}
 use Rattle.layers.proofs.next.Goals as goal
-use Rattle.layers.proofs.next.Goals.{Start}
-
-abbrev lent : Start → Rooms
-lent s = let a = s.args in rooms a.points.now a.edges.now a.marks.now a.triangles.now
 
 pub returns-then-state-ne-STATE_LENGTH : goal.returns-then-state-ne-STATE_LENGTH
 returns-then-state-ne-STATE_LENGTH c =
-    layer_length (lent (goal.at.returns-then-state-ne-STATE_LENGTH c).Start) c.args.state.now c.args.layer.now (ne_eqb _ _ c.if-state-ne-STATE_LENGTH.true)
+    layer_length (rooms c.args.points.now c.args.edges.now c.args.marks.now c.args.triangles.now) c.args.state.now c.args.layer.now (ne_eqb _ _ c.if-state-ne-STATE_LENGTH.true)
 
 pub returns-then-not-is_state : goal.returns-then-not-is_state
 returns-then-not-is_state c =
     let room = c.args.state.now in
-    layer_none (lent (goal.at.returns-then-not-is_state c).Start) room c.args.layer.now (eq-eqb _ _ c.if-state-ne-STATE_LENGTH.false)
+    layer_none (rooms c.args.points.now c.args.edges.now c.args.marks.now c.args.triangles.now) room c.args.layer.now (eq-eqb _ _ c.if-state-ne-STATE_LENGTH.false)
     (of_room is_some room c.read_head-head.ensures c.is_state.ensures c.if-not-is_state.true)
 
 pub is_amiss-requires : goal.is_amiss-requires
@@ -31,7 +27,7 @@ pub returns-then-is_amiss : goal.returns-then-is_amiss
 returns-then-is_amiss c =
     let room = c.args.state.now in
     let layer = c.args.layer.now in
-    layer_amiss_lem (lent (goal.at.returns-then-is_amiss c).Start) room (eq-eqb _ _ c.if-state-ne-STATE_LENGTH.false)
+    layer_amiss_lem (rooms c.args.points.now c.args.edges.now c.args.marks.now c.args.triangles.now) room (eq-eqb _ _ c.if-state-ne-STATE_LENGTH.false)
     (of_room is_some room c.read_head-head.ensures c.is_state.ensures c.if-not-is_state.false)
     layer
     (of_room (is_amiss (length layer)) room c.read_head-head.ensures c.is_amiss.ensures c.if-is_amiss.true)
@@ -49,7 +45,7 @@ returns-in_err-take_first c =
     let layer = c.args.layer.now in
     let p = err_from_is_err_and c.from_residual.result c.from_residual.ensures.1 in
     rw (p.1, p.2)
-    (first_layered (lent (goal.at.returns-in_err-take_first c).Start) room (eq-eqb _ _ c.if-state-ne-STATE_LENGTH.false)
+    (first_layered (rooms c.args.points.now c.args.edges.now c.args.marks.now c.args.triangles.now) room (eq-eqb _ _ c.if-state-ne-STATE_LENGTH.false)
     (of_room is_some room c.read_head-head.ensures c.is_state.ensures c.if-not-is_state.false)
     layer
     (of_room (is_amiss (length layer)) room c.read_head-head.ensures c.is_amiss.ensures c.if-is_amiss.false)
@@ -60,7 +56,7 @@ pub returns-then-head-eq0 : goal.returns-then-head-eq0
 returns-then-head-eq0 c =
     let room = c.args.state.now in
     let layer = c.args.layer.now in
-    first_layered (lent (goal.at.returns-then-head-eq0 c).Start) room (eq-eqb _ _ c.if-state-ne-STATE_LENGTH.false)
+    first_layered (rooms c.args.points.now c.args.edges.now c.args.marks.now c.args.triangles.now) room (eq-eqb _ _ c.if-state-ne-STATE_LENGTH.false)
     (of_room is_some room c.read_head-head.ensures c.is_state.ensures c.if-not-is_state.false)
     layer
     (of_room (is_amiss (length layer)) room c.read_head-head.ensures c.is_amiss.ensures c.if-is_amiss.false)
@@ -76,7 +72,7 @@ pub returns : goal.returns
 returns c =
     let room = c.args.state.now in
     let layer = c.args.layer.now in
-    let r = lent (goal.at.returns c).Start in
+    let r = rooms c.args.points.now c.args.edges.now c.args.marks.now c.args.triangles.now in
     c.take_over.ensures
     ∙ ap (λ h. layer_measured r room layer (layer_hands (state_in room) h.taken layer)) c.read_head-head.ensures
     ∙ layer_taken r room (eq-eqb _ _ c.if-state-ne-STATE_LENGTH.false)
