@@ -14,7 +14,7 @@ ghost use Rattle.judge.specs.Judged.{Standing, JudgesShells, JudgesMesh, JudgesS
 
 use columns::Parts;
 use grid::limits::{MOST_POINTS, MOST_TRIANGLES};
-use grid::refusal::Refusal;
+use grid::refusal::{Refusal, refused_later};
 use meshform::take_lines;
 use meshrows::{Counts, read_counts};
 use roommesh::{mesh_number, number_shells};
@@ -26,14 +26,6 @@ pub struct Judged {
     pub counts: Counts,
     pub points_at: usize,
     pub shells_at: usize,
-}
-
-// A refusal that comes after 3 makes the work room zero.
-fn refused_later(refusal: Refusal, work: &mut [u32]) -> Result<Judged, Refusal>
-    ensures { (result ≡ Err refusal) × (work.new ≡ replicate (length work.old) 0) }
-{
-    work.fill(0);
-    Err(refusal)
 }
 
 // Refuses with the first of 4, 5, 11 and 3 that holds of line 1's numbers and the rooms.

@@ -20,4 +20,4 @@ returns-in-Ok c =
 
 pub returns-in-Err : goal.returns-in-Err
 returns-in-Err c =
-    refused_early _ c.refused_later.ensures.0 _ (lines_refuse _ _ _ c.in-Err.ensures) (c.refused_later.ensures.1 ∙ ap (λ n. replicate {A = ℕ} n 0) c.take_lines.auto.work)
+    refused_early _ c.refused_later.ensures.answer _ (lines_refuse _ _ _ c.in-Err.ensures) (c.refused_later.ensures.zero ∙ ap (λ n. replicate {A = ℕ} n 0) c.take_lines.auto.work)

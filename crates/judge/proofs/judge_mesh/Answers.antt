@@ -7,7 +7,7 @@ use Rattle.judge.proofs.judge_mesh.Goals as goal
 pub returns-in-Err : goal.returns-in-Err
 returns-in-Err c f =
     let a = c.args in
-    refused_early _ c.refused_later.ensures.0 _ (no_mesh a.parts.points a.parts.triangles a.shells a.input.now a.from a.next a.work.now f c.in-Err.refusal c.in-Err.ensures) c.refused_later.ensures.1
+    refused_early _ c.refused_later.ensures.answer _ (no_mesh a.parts.points a.parts.triangles a.shells a.input.now a.from a.next a.work.now f c.in-Err.refusal c.in-Err.ensures) c.refused_later.ensures.zero
 
 pub returns : goal.returns
 returns c f =

@@ -13,7 +13,7 @@ pub returns-then-own-shells : goal.returns-then-own-shells
 returns-then-own-shells c f =
     let a = c.args in
     other_count a.parts.points a.parts.triangles a.shells a.input.now a.from a.next a.work.now f c.requires.1 c.number_shells-own.result c.number_shells-own.new.work c.number_shells-own.ensures
-    c.refused_later.result c.refused_later.new.work (c.refused_later.ensures.1 ∙ ap (λ k. replicate k 0) c.number_shells-own.auto.work) c.refused_later.ensures.0 c.if-own-shells.true
+    c.refused_later.result c.refused_later.new.work (c.refused_later.ensures.zero ∙ ap (λ k. replicate k 0) c.number_shells-own.auto.work) c.refused_later.ensures.answer c.if-own-shells.true
 
 pub same_shells-requires : goal.same_shells-requires
 same_shells-requires c =
@@ -25,7 +25,7 @@ returns-then-not-same_shells c f =
     let a = c.args in
     let r = c.refused_later-then-not-same_shells in
     other_records a.parts.points a.parts.triangles a.shells a.input.now a.from a.next a.work.now f c.requires.1 c.number_shells-own.result c.number_shells-own.new.work c.number_shells-own.ensures
-    r.result r.new.work (r.ensures.1 ∙ ap (λ k. replicate k 0) (c.same_shells.auto.work ∙ c.number_shells-own.auto.work)) r.ensures.0 c.if-own-shells.false
+    r.result r.new.work (r.ensures.zero ∙ ap (λ k. replicate k 0) (c.same_shells.auto.work ∙ c.number_shells-own.auto.work)) r.ensures.answer c.if-own-shells.false
     (λ q. absurd (true≢false (sym (c.same_shells.ensures.same.so q) ∙ c.if-not-same_shells.true)))
 
 pub returns : goal.returns
