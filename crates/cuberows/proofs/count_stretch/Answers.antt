@@ -7,43 +7,31 @@ use lib.Count.{count_trailing_zeros}
 use Rattle.laws.specs.Bits.{word_bits}
 use Rattle.laws.specs.Range.{sum_to}
 use Rattle.laws.proofs.Ranges.{sum_next, sum_quiet}
-use Rattle.laws.proofs.Scan.{NextBit, left_all, next_bit, none_left}
+use Rattle.laws.proofs.Scan.{left_all, next_bit, none_left}
 use Rattle.cube.specs.Answer.{count}
 use Rattle.cuberows.specs.Cubes.{word_case, busy_count, stretch_count}
-use Rattle.cuberows.proofs.Cases.{CaseRead, case_read}
+use Rattle.cuberows.proofs.Cases.{case_read}
 use Rattle.cuberows.proofs.Layers.{busy_most}
 use Rattle.cuberows.proofs.count_stretch.Goals as goal
-use Rattle.cuberows.proofs.count_stretch.Goals.{After-case-case, In-loop-busy}
 
 pub loop-busy-init : goal.loop-busy-init
 unfolding sum_to
 loop-busy-init c = (0, omega arith, left_all c.args.cubes, omega (arith, c.ranges), refl)
 
--- in a turn: the next busy cube
-abbrev cube_here : In-loop-busy → ℕ
-cube_here c = count_trailing_zeros word_bits c.loop-busy.busy
-
-next_here : (c : In-loop-busy) → NextBit word_bits c.args.cubes c.loop-busy.invariant.0 c.loop-busy.busy (cube_here c)
-next_here c =
-    let l = c.loop-busy in
-    next_bit word_bits c.args.cubes l.invariant.0 l.busy l.invariant.2 l.invariant.3 c.loop-busy-test.true
-
--- the case that was read, and its count
-read : (c : After-case-case) → CaseRead c.args.counts.now c.args.corners (count_trailing_zeros word_bits c.loop-busy.busy) c.case-case.result
-read c = case_read c.args.counts.now c.args.corners (count_trailing_zeros word_bits c.loop-busy.busy) _ c.requires c.case-case.ensures
-
 pub overflow_add-sum : goal.overflow_add-sum
 overflow_add-sum c =
     let l = c.loop-busy in
     let a = c.args in
-    omega (arith, (read (goal.at.overflow_add-sum c).After-case-case).few, l.invariant.1, l.invariant.4, busy_most a.corners a.cubes l.invariant.0)
+    let seen = case_read a.counts.now a.corners (count_trailing_zeros word_bits l.busy) _ c.requires c.case-case.ensures in
+    omega (arith, seen.few, l.invariant.1, l.invariant.4, busy_most a.corners a.cubes l.invariant.0)
 
 pub loop-busy-preserved : goal.loop-busy-preserved
 loop-busy-preserved c =
     let a = c.args in
     let l = c.loop-busy in
-    let f = next_here (goal.at.loop-busy-preserved c).In-loop-busy in
-    let t = cube_here (goal.at.loop-busy-preserved c).In-loop-busy in
+    let t = count_trailing_zeros word_bits l.busy in
+    let f = next_bit word_bits a.cubes l.invariant.0 l.busy l.invariant.2 l.invariant.3 c.loop-busy-test.true in
+    let seen = case_read a.counts.now a.corners t _ c.requires c.case-case.ensures in
     let known : ℕ → ℕ = busy_count a.corners a.cubes in
     let mine : known t ≡ count (word_case a.corners t) = ap (λ b. cond b (count (word_case a.corners t)) 0) f.set in (
       t + 1,
@@ -53,8 +41,8 @@ loop-busy-preserved c =
       omega (
         arith,
         l.invariant.4,
-        (read (goal.at.loop-busy-preserved c).After-case-case).counted,
-        ap count (read (goal.at.loop-busy-preserved c).After-case-case).is,
+        seen.counted,
+        ap count seen.is,
         mine,
         sum_quiet l.invariant.0 t known f.from (λ i h k. ap (λ b. cond b (count (word_case a.corners i)) 0) (f.quiet i h k)),
         sum_next t known,
