@@ -204,7 +204,7 @@ fn mask_rows(
     to
 }
 
-// The words of all rows of the samples lent. Many rows are flagged before the first of them is gathered: what was stored just before in another width is read late.
+// The words of all rows of the samples lent. Many rows are flagged before the first of them is gathered: what was stored just before in another width is read late. No range goes by such steps, as many rows as can be flagged and the last time fewer.
 pub fn fill(kept: &[u32], samples: &[u16], nx: usize, rows: usize, grey: u16, masks: &mut [u64])
     requires { (2 ≤ nx) × (nx ≤ most_flagged) × (row_words nx * rows ≤ length masks.old) × (length (lent_samples kept.now samples.now) ≡ nx * rows) }
     ensures { Masked nx rows grey (lent_samples kept.now samples.now) masks.new }

@@ -8,7 +8,7 @@ use printing::zeros::{MOST_INPUT, MOST_OUTPUT};
 use std::io;
 use std::io::{Read, Write};
 
-// Reads until the room is full or the input ends. Answers how many bytes it put at the room's start.
+// Reads until the room is full or the input ends, by steps as long as what was read. Answers how many bytes it put at the room's start.
 fn read_full<R: Read>(input: &mut R, room: &mut [u8]) -> io::Result<usize>
     ensures inside { IfOk result (λ n. n ≤ length room.new) }
     ensures bytes { IfOk result (λ n. IfSome (R.remaining input.old) (λ given.

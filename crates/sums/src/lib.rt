@@ -17,7 +17,7 @@ use measures::vectors::Vector;
 use measures::{corners, sides, vectors};
 use mesh::Place;
 
-// Sums start at +0.0.
+// Sums start at +0.0. Rooms of whole numbers are made zero by `rooms::clear`: one function for both would take the zero, and be `fill` itself.
 pub fn clear(room: &mut [f64])
     ensures { (k : ℕ) → k < length room.old → get_or room.new k nan ≡ plus_zero }
 {
