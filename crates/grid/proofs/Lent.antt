@@ -3,11 +3,14 @@ use mathlib.Core.Path.{◌≡◌, ap, sym, ◌∙◌}
 use mathlib.Core.List.{List, map}
 use Prim.Native.Nat.{ℕ, ◌+◌, ◌<◌}
 use native.Mathlib.Omega.{arith}
-use lib.ListN.{length, get_or, length-map, get_or-append}
+use lib.ListN.{length, get_or, length-append, length-map, get_or-append}
 use lib.Seq.{get_or-append-add}
 use Rattle.grid.specs.Work.{sample_of, lent_samples}
 
 module _ (kept samples : List ℕ) where
+  pub length_lent : length (lent_samples kept samples) ≡ length kept + length samples
+  length_lent = length-append (map sample_of kept) samples ∙ ap (λ n. n + length samples) (length-map kept sample_of)
+
   pub kept_first : (s : ℕ) → s < length kept → get_or (lent_samples kept samples) s 0 ≡ get_or (map sample_of kept) s 0
   kept_first s l = get_or-append (map sample_of kept) samples 0 s (omega (arith, length-map kept sample_of))
 
