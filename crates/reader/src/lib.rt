@@ -2,7 +2,8 @@
 
 #![tactic(auto)]
 
-ghost use Rattle.std.specs.Prelude.{◌≡◌};
+ghost use Rattle.std.specs.Prelude.{◌≡◌, IfErr};
+ghost use Rattle.grid.specs.Refusal.{mesh_line};
 ghost use Rattle.meshread.specs.Promise.{Reads};
 ghost use Rattle.reader.specs.Counts.{counts_told, counts_answered};
 ghost use Rattle.reader.specs.Promise.{rooms, answered};
@@ -18,7 +19,8 @@ use records::Shell;
 // What line 1 says, so that a caller can size the rooms of `read_mesh`.
 #[tactic(auto, unfolding(crate::specs::Counts::counts_found))]
 pub fn read_counts(input: &[u8]) -> Result<Counts, Refusal>
-    ensures { counts_told result ≡ counts_answered input.now }
+    ensures counts { counts_told result ≡ counts_answered input.now }
+    ensures line { IfErr result (λ e. mesh_line e ≡ 1) }
 {
     match meshrows::read_counts(input) {
         Some((counts, _)) => Ok(counts),
