@@ -1,3 +1,4 @@
--- Line 1 has one answer; what the calls of the reader make together.
+-- Line 1 has one answer, and so has a mesh's text; what the calls of the reader make together.
 pub mod OneCounts
+pub mod OneRead
 pub mod Ending
