@@ -11,6 +11,7 @@ ghost use Rattle.filling.specs.Filled.{PointsThere, MarksFit, Fillable, ListsFil
 use columns::Parts;
 use judge::Judged;
 use meshrows::read_point;
+use rooms::copy;
 
 // Reads the lines of all points once more: their grid edges and marks go to the rooms. Each line is known to be well formed.
 fn fill_points(input: &[u8], from: usize, v: usize, edges: &mut [u32], marks: &mut [u8])
@@ -49,8 +50,8 @@ pub fn fill_lists(
     };
     let coordinates = 3 * parts.points;
     let corners = 3 * parts.triangles;
-    points[..coordinates].copy_from_slice(&work[..coordinates]);
-    triangles[..corners].copy_from_slice(&work[parts.triangles_at()..parts.numbers_at()]);
+    copy(0, work, &mut points[..coordinates]);
+    copy(parts.triangles_at(), work, &mut triangles[..corners]);
     fill_points(input, judged.points_at, parts.points, edges, marks);
     work.fill(0);
 }

@@ -17,6 +17,7 @@ pub fn copy(from: usize, read: &[u32], written: &mut [u32])
     requires { from + length written.old ≤ length read.now }
     ensures { written.new ≡ part_of from (length written.old) read.now }
 {
-    let end = from + written.len();
-    written.copy_from_slice(&read[from..end]);
+    for i in 0..written.len() {
+        written[i] = read[from + i];
+    }
 }

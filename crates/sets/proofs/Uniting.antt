@@ -10,7 +10,7 @@ use Rattle.laws.specs.Mesh.{Triangle}
 use Rattle.laws.proofs.Values.{length_list, list_at}
 use Rattle.mesh.specs.Mesh.{triangle_count, triangle_at, triangles_of}
 use Rattle.sets.specs.Led.{Led, here}
-use Rattle.sets.specs.Sets.{parent, Falling, root, Sound, Joined, Together, United}
+use Rattle.sets.specs.Sets.{parent, Falling, root, Sound, Joined, Together}
 use Rattle.sets.proofs.Roots.{root_fixed}
 use Rattle.sets.proofs.Leading.{led_first, led_second}
 

@@ -108,6 +108,6 @@ pub fn number(room: &[u32], numbers: &mut [u32])
     requires numbers_len_bound { length numbers.old ≤ most_points }
     ensures { numbers.new ≡ list_to (length numbers.old) (rank_of room.now) }
 {
-    numbers.copy_from_slice(&room[..numbers.len()]);
+    rooms::copy(0, room, numbers);
     rank(numbers);
 }

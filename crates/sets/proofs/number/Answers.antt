@@ -12,5 +12,5 @@ returns c =
     let room = c.args.room.now in
     let n = length c.args.numbers.now in
     let l = c.requires.numbers_in_bounds in
-    c.rank.ensures ∙ ap (λ r. list_to (length r) (rank_of r)) c.copy_from_slice.ensures.after
+    c.rank.ensures ∙ ap (λ r. list_to (length r) (rank_of r)) c.copy.ensures
     ∙ ap (λ k. list_to k (rank_of (take n room))) (length-take-le n room l) ∙ front_ranks room c.requires.falling n l
