@@ -1,5 +1,5 @@
 -- `reading::read_signed` meets its contract: a field, behind a minus sign or none.
-use mathlib.Core.Path.{ap, ◌∙◌}
+use mathlib.Core.Path.{◌≡◌, ap, ◌∙◌}
 use native.Mathlib.Omega.{arith}
 use mir.Syntax.{w64}
 use mir.Facts.{to_z-of_z, to_z_pos}
@@ -33,7 +33,9 @@ returns-in_err-size c =
 pub returns-then-size-eq0 : goal.returns-then-size-eq0
 unfolding after negated
 returns-then-size-eq0 c =
-    reads_nothing (minus_at _ _ c.args.input.now _ (omega arith) c.if-input-from-ne45.false ∙ ap (after negated) c.in_ok-size.ensures.same ∙ rw c.if-size-eq0.true)
+    let f = c.in_ok-size in
+    let zero : f.size ≡ 0 = omega (arith, c.if-size-eq0.true) in
+    reads_nothing (minus_at _ _ c.args.input.now _ (omega arith) c.if-input-from-ne45.false ∙ ap (after negated) f.ensures.same ∙ rw zero)
 
 pub returns : goal.returns
 unfolding after
@@ -41,6 +43,6 @@ returns c =
     let f = c.in_ok-size in
     rw (c.excess.ensures, to_z-of_z {w = w64} (difference_fits 0 f.size (omega arith) (omega (arith, f.ensures.within))))
     (reads _ _
-    (minus_at _ _ c.args.input.now _ (omega arith) c.if-input-from-ne45.false ∙ ap (after negated) f.ensures.same ∙ negated_got f.size _ c.if-size-eq0.false)
+    (minus_at _ _ c.args.input.now _ (omega arith) c.if-input-from-ne45.false ∙ ap (after negated) f.ensures.same ∙ negated_got f.size _ (λ zero. c.if-size-eq0.false (omega (arith, zero))))
     (size_between 0 f.size _ (omega arith) (omega (arith, f.ensures.within)))
     f.ensures.inside)

@@ -46,4 +46,4 @@ returns-in-Err c =
     let w = c.write_refusal-written in
     let r = written_read (refusal_text _ _) _ _ _ _ (w.ensures.holds (omega (arith, c.requires))) w.ensures.text in
     rw c.unwrap_or.ensures
-    (record { inside = r.0; text = refusal_answers _ c.in-Err.refusal _ c.in-Err.ensures _ (r.1 ∙ ap₂ refusal_text c.number.ensures c.grid_line.ensures) })
+    (record { inside = r.0; text = refusal_answers _ c.in-Err.refusal _ c.in-Err.ensures _ (r.1 ∙ ap₂ refusal_text c.number.ensures (omega (arith, c.grid_line.ensures))) })
