@@ -12,7 +12,7 @@ pub fn clear(room: &mut [u32])
     room.fill(0);
 }
 
-// The numbers that stand in a list from a place on, over the whole of a room. It is a loop since the library's copy is C's memmove, which nothing else here needs from outside.
+// The numbers that stand in a list from a place on, over the whole of a room. It is a loop since the library's copy is C's memmove, a name that the archives for C do without.
 pub fn copy(from: usize, read: &[u32], written: &mut [u32])
     requires { from + length written.old ≤ length read.now }
     ensures { written.new ≡ part_of from (length written.old) read.now }
